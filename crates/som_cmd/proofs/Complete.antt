@@ -6,7 +6,8 @@ use Rattle.som_io.specs.Outside.{Rose}
 use Rattle.som_cmd_steps.proofs.Statuses.{differs}
 use Rattle.som_cmd_build.specs.PutEnds.{LeavesFiles, as_they_were, with_image, put_failed}
 use Rattle.som_cmd_witness.specs.WitnessEnds as witness
-use Rattle.som_cmd.specs.Words.{Asked, Bad, Library, Run, Show, Check, Client, Tasks, Witness, Generate}
+use Rattle.som_cmd_towers.specs.Asked.{Make, Compare, RunOn}
+use Rattle.som_cmd.specs.Words.{Asked, Bad, Library, Run, Show, Check, Client, Tasks, Witness, Generate, Tower}
 use Rattle.som_cmd.specs.Complete.{EndsOrWants, WantsMemory}
 use Rattle.som_cmd.specs.Ends.{EndsAsTold, ShowsSome, StoreFails}
 use Rattle.som_cmd.specs.PutEnds.{KeepsFiles}
@@ -41,6 +42,9 @@ module _ (count now : ℕ) (steady : Rose count now → ⊥) where
   kept (Tasks library turns clients) files status new_files old new ten k = k
   kept (Witness out older newer) files status new_files old new ten k = unwitnessed files out older newer status new_files old new ten k
   kept (Generate count) files status new_files old new ten k = k
+  kept (Tower (Make out below names)) files status new_files old new ten k = unchanged _ files out status new_files old new ten k
+  kept (Tower (Compare older newer)) files status new_files old new ten k = k
+  kept (Tower (RunOn client below fuel)) files status new_files old new ten k = k
   kept Bad files status new_files old new ten k = k
 
   wants : (asked : Asked) (files : Files) (status : ℕ) (new_files : Option Files) (old new : Option (List ℕ)) → status ≡ 10 → new_files ≡ Some files

@@ -1,4 +1,5 @@
 mod WordLaws
+mod TowerWordLaws
 mod FuelLaws
 mod FuelSpelled
 mod OneAnswer

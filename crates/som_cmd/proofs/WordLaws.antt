@@ -1,5 +1,5 @@
 -- The words name as many files with a main as what they ask for needs, no more classes than can be generated, and turns of the clients that they name.
-use Rattle.std.proofs.Common.{◌≡◌, ℕ, suc, ◌+◌, ◌<◌, ◌≤◌, ◌==◌, Bool, true, false, ◌&&◌, if◌then◌else◌, List, [], ◌∷◌, length, drop, get_or, codes, Option, Some, None, refl, sym, ap, subst, ◌∙◌, arith}
+use Rattle.std.proofs.Common.{◌≡◌, ℕ, suc, ◌+◌, ◌<◌, ◌≤◌, ◌==◌, Bool, true, false, not, ◌&&◌, if◌then◌else◌, List, [], ◌∷◌, length, take, drop, get_or, codes, Option, Some, None, refl, sym, ap, subst, ◌∙◌, arith}
 use Rattle.std.specs.Prelude.{nat_le}
 use Rattle.std.proofs.lemmas.Bool.{eqb-true, leb-true}
 use Rattle.std.proofs.lemmas.List.{drop_more, drop_all}
@@ -11,7 +11,10 @@ use Rattle.som_cmd_tasks.specs.declared.limits.TheConstants.{MAX_PATTERN, MAX_RO
 use Rattle.som_cmd_tasks.specs.Patterns.{AreTurns, names_client, turns_given}
 use Rattle.som_cmd_tasks.proofs.Turning.{pattern_turns}
 use Rattle.som_generator.specs.declared.limits.TheConstants.{MAX_CLASSES}
-use Rattle.som_cmd.specs.Words.{Asked, Show, Check, Library, Client, Tasks, Witness, Generate, Bad, are_clients, are_files, asked, asked_of, client_asked, from_one_to, fuel_of, generate_asked, generate_with, is_file, is_name, is_pattern, library_asked, rounds_of, run_asked, run_with, tasks_asked, trace_in, turns_with, witness_asked}
+use Rattle.som_cmd.specs.Words.{Asked, Show, Check, Library, Client, Tasks, Witness, Generate, Tower, Bad, are_clients, are_files, asked, asked_of, client_asked, from_one_to, fuel_of, generate_asked, generate_with, is_file, is_name, is_pattern, library_asked, rounds_of, run_asked, run_with, tasks_asked, tower_asked, are_levels, are_texts, compare_asked, count_before, fuel_in, is_fuel_flag, make_asked, run_on_asked, run_on_with, trace_in, turns_with, witness_asked}
+use Rattle.som_towerimage.specs.declared.level.TheConstants.{MAX_BELOW_CLIENT}
+use Rattle.som_towerimage.specs.Spelling.{most_below}
+use Rattle.som_cmd_towers.specs.Asked.{IsFormed, Make, Compare, RunOn}
 
 -- ---- one word after the other
 
@@ -53,12 +56,13 @@ all_counted words i count over so =
 
 -- ---- what is asked for
 
--- it has as many files with a main as it needs, none for a library and one for a client; or each turn is that of one of the clients, and none has too many; or so many classes can be generated
+-- it has as many files with a main as it needs, none for a library and one for a client; or each turn is that of one of the clients, and none has too many; or so many classes can be generated; or so many levels can be below
 abbrev pub IsAnswerable : Asked → Type 0
 IsAnswerable (Library out files) = mains_in files ≡ 0
 IsAnswerable (Client out library files) = mains_in files ≡ 1
 IsAnswerable (Tasks library turns clients) = AreTurns (length clients) turns
 IsAnswerable (Generate count) = count ≤ MAX_CLASSES
+IsAnswerable (Tower what) = IsFormed what
 IsAnswerable _ = Unit {0}
 
 if_mains : (b : Bool) (x y : Asked) → IsAnswerable x → IsAnswerable y → IsAnswerable (if b then x else y)
@@ -133,6 +137,44 @@ witness_any out old [] = tt
 witness_any out old (new ∷ []) = if_mains (is_name out && is_name old && is_name new) (Witness out old new) Bad tt tt
 witness_any out old (new ∷ more ∷ rest) = tt
 
+-- the parts of a conjunction of three
+three : (a b c : Bool) → (a && b && c) ≡ true → (a ≡ true) × (b ≡ true) × (c ≡ true)
+three true true c e = (refl, refl, e)
+three true false c e = absurd cc
+three false b c e = absurd cc
+
+made_formed : (out : List ℕ) (below files : List (List ℕ)) (b : Bool) → (is_name out && are_levels (most_below (mains_in files == 1)) below && are_texts files) ≡ b → IsAnswerable (if b then Tower (Make out below files) else Bad)
+made_formed out below files true e =
+    let p = three (is_name out) (are_levels (most_below (mains_in files == 1)) below) (are_texts files) e in
+    let levels = three (nat_le 1 (length below)) (nat_le (length below) (most_below (mains_in files == 1))) (every is_name below) p.1.0 in
+    let texts = three (not (length files == 0)) (every is_file files) (nat_le (mains_in files) 1) p.1.1 in
+    record { one_main = leb-true (mains_in files) 1 texts.1.1; some = leb-true 1 (length below) levels.0; few = leb-true (length below) (most_below (mains_in files == 1)) levels.1.0 }
+made_formed out below files false e = tt
+
+run_formed : (client : List ℕ) (below : List (List ℕ)) (fuel : ℕ) (b : Bool) → (is_name client && are_levels MAX_BELOW_CLIENT below) ≡ b → IsAnswerable (if b then Tower (RunOn client below fuel) else Bad)
+run_formed client below fuel true e =
+    let levels = three (nat_le 1 (length below)) (nat_le (length below) MAX_BELOW_CLIENT) (every is_name below) (second (is_name client) (are_levels MAX_BELOW_CLIENT below) e) in
+    record { some = leb-true 1 (length below) levels.0; few = leb-true (length below) MAX_BELOW_CLIENT levels.1.0 }
+run_formed client below fuel false e = tt
+
+run_on_formed : (client : List ℕ) (below : List (List ℕ)) (fuel : Option ℕ) → IsAnswerable (run_on_with client below fuel)
+run_on_formed client below None = tt
+run_on_formed client below (Some fuel) = run_formed client below fuel (is_name client && are_levels MAX_BELOW_CLIENT below) refl
+
+compared_formed : (old : List ℕ) (words : List (List ℕ)) → IsAnswerable (compare_asked old words)
+compared_formed old [] = tt
+compared_formed old (new ∷ []) = if_mains (is_name old && is_name new) (Tower (Compare old new)) Bad tt tt
+compared_formed old (new ∷ more ∷ rest) = tt
+
+tower_formed : (kind name : List ℕ) (words : List (List ℕ)) → IsAnswerable (tower_asked kind name words)
+tower_formed kind name words =
+    let levels = take (count_before is_file words) words in
+    let files = drop (count_before is_file words) words in
+    if_mains (bytes_eq kind (codes "make")) (make_asked name words) _ (made_formed name levels files (is_name name && are_levels (most_below (mains_in files == 1)) levels && are_texts files) refl)
+    (if_mains (bytes_eq kind (codes "check")) (compare_asked name words) _ (compared_formed name words)
+    (if_mains (bytes_eq kind (codes "run")) (run_on_asked name words) Bad
+    (run_on_formed name (take (count_before is_fuel_flag words) words) (fuel_in (drop (count_before is_fuel_flag words) words))) tt))
+
 pub asked_mains : (words : List (List ℕ)) → IsAnswerable (asked words)
 asked_mains [] = tt
 asked_mains (word ∷ []) = tt
@@ -142,8 +184,9 @@ asked_mains (word ∷ client ∷ library ∷ rest) =
     (if_mains (bytes_eq word (codes "library")) (library_asked client (library ∷ rest)) _ (library_mains client (library ∷ rest) (is_name client) (are_files 0 (library ∷ rest)) refl)
     (if_mains (bytes_eq word (codes "client")) (client_asked client library rest) _ (client_mains client library rest (is_name client) (is_name library) (are_files 1 rest) refl)
     (if_mains (bytes_eq word (codes "tasks")) (tasks_asked client library rest) _ (tasks_few client library rest)
-    (if_mains (bytes_eq word (codes "witness")) (witness_asked client library rest) (asked_of word (client ∷ library ∷ rest)) (witness_any client library rest)
-    (if_mains _ (Check (client ∷ library ∷ rest)) Bad tt tt)))))
+    (if_mains (bytes_eq word (codes "witness")) (witness_asked client library rest) _ (witness_any client library rest)
+    (if_mains (bytes_eq word (codes "tower")) (tower_asked client library rest) (asked_of word (client ∷ library ∷ rest)) (tower_formed client library rest)
+    (if_mains _ (Check (client ∷ library ∷ rest)) Bad tt tt))))))
 
 pub mains_by : (words : List (List ℕ)) (by : Asked) → by ≡ asked words → IsAnswerable by
 mains_by words by is = subst IsAnswerable (sym is) (asked_mains words)

@@ -10,7 +10,9 @@ use Rattle.som_cmd_run.specs.RunAnswer.{IsRunAnswer}
 use Rattle.som_cmd_tasks.specs.TasksAnswer.{IsTasksAnswer}
 use Rattle.som_cmd_witness.specs.WitnessAnswer.{IsWitnessAnswer}
 use Rattle.som_cmd_generate.specs.GenerateAnswer.{IsGenerateAnswer}
-use Rattle.som_cmd.specs.Words.{Library, Asked, Run, Show, Check, Client, Tasks, Witness, Generate, Bad}
+use Rattle.som_cmd_towers.specs.Asked.{TowerAsked}
+use Rattle.som_cmd_towers.specs.Answer.{IsTowerAnswer}
+use Rattle.som_cmd.specs.Words.{Library, Asked, Run, Show, Check, Client, Tasks, Witness, Generate, Tower, Bad}
 
 abbrev pub bad_line : List ℕ
 bad_line = codes "som: bad command line" ++ 10 ∷ []
@@ -26,3 +28,4 @@ pub data IsAnswer (files : Files) : Asked → Ending → Type 0 where
   takes_turns : (library turns : List ℕ) (clients : List (List ℕ)) (e : Ending) → IsTasksAnswer library turns clients files e → IsAnswer files (Tasks library turns clients) e
   shows_breach : (out old new : List ℕ) (e : Ending) → IsWitnessAnswer out old new files e → IsAnswer files (Witness out old new) e
   generates : (count : ℕ) (e : Ending) → IsGenerateAnswer count files e → IsAnswer files (Generate count) e
+  answers_tower : (what : TowerAsked) (e : Ending) → IsTowerAnswer what files e → IsAnswer files (Tower what) e

@@ -6,7 +6,7 @@ use Rattle.som_generator.specs.declared.made.Made.{Made}
 use Rattle.som_generator.specs.Making.{IsMade}
 use Rattle.som_cmd_generate.specs.GenerateAnswer.{IsGenerateAnswer}
 use Rattle.som_cmd_generate.specs.Printing.{ShowsSomeOf}
-use Rattle.som_cmd.specs.Words.{Asked, Run, Show, Check, Library, Client, Tasks, Witness, Generate, Bad}
+use Rattle.som_cmd.specs.Words.{Asked, Run, Show, Check, Library, Client, Tasks, Witness, Generate, Tower, Bad}
 
 -- with memory and without a fault of the sink it ends as its answer says, whatever files there are, which stay; else a front of that text was written
 pub record Generates (count status : ℕ) (old new : Option (List ℕ)) : Type 0 where
@@ -23,6 +23,7 @@ GeneratesAsked (Library out names) status old new = Unit {0}
 GeneratesAsked (Client out library names) status old new = Unit {0}
 GeneratesAsked (Tasks library turns clients) status old new = Unit {0}
 GeneratesAsked (Witness out older newer) status old new = Unit {0}
+GeneratesAsked (Tower what) status old new = Unit {0}
 GeneratesAsked Bad status old new = Unit {0}
 
 -- so many classes are to be generated, and this is what is made of them

@@ -8,3 +8,4 @@ pub mod Chain
 pub mod Witnessing
 pub mod Refused
 pub mod Complete
+pub mod Towers

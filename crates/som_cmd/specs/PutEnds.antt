@@ -9,15 +9,17 @@ use Rattle.som_cmd_build.specs.ClientAnswer.{IsClientCompiled}
 use Rattle.som_cmd_build.specs.PutEnds.{HoldsClientTexts, HoldsTexts, LeavesFilesTold}
 use Rattle.som_cmd_build.specs.PutEnds as build
 use Rattle.som_cmd_witness.specs.WitnessEnds as witness
-use Rattle.som_cmd.specs.Words.{Asked, Run, Show, Check, Library, Client, Tasks, Witness, Generate, Bad}
+use Rattle.som_cmd_towers.specs.Ends.{KeepsTowerFiles}
+use Rattle.som_cmd.specs.Words.{Asked, Run, Show, Check, Library, Client, Tasks, Witness, Generate, Tower, Bad}
 
--- the files after a call: no command but `library`, `client` and `witness` changes any
+-- the files after a call: no command but `library`, `client`, `witness` and `tower make` changes any
 abbrev pub KeepsFiles : Asked → Option Files → ℕ → ℕ → ℕ → Option Files → Option (List ℕ) → Option (List ℕ) → Type 0
 KeepsFiles (Run client library fuel shows) files before now status new_files old new = new_files ≡ files
 KeepsFiles (Show image) files before now status new_files old new = new_files ≡ files
 KeepsFiles (Check images) files before now status new_files old new = new_files ≡ files
 KeepsFiles (Tasks library turns clients) files before now status new_files old new = new_files ≡ files
 KeepsFiles (Generate count) files before now status new_files old new = new_files ≡ files
+KeepsFiles (Tower what) files before now status new_files old new = KeepsTowerFiles what files before now status new_files old new
 KeepsFiles Bad files before now status new_files old new = new_files ≡ files
 KeepsFiles (Library out names) files before now status new_files old new = LeavesFilesTold (λ told. AreCompiled told names) files out before now status new_files old new
 KeepsFiles (Client out library names) files before now status new_files old new = LeavesFilesTold (λ told. IsClientCompiled told library names) files out before now status new_files old new

@@ -11,8 +11,10 @@ use Rattle.som_cmd_tasks.specs.Refusals.{IsTasksRefusal}
 use Rattle.som_cmd_tasks.specs.TasksAnswer.{tasks_statuses}
 use Rattle.som_cmd_witness.specs.WitnessAnswer.{witness_statuses}
 use Rattle.som_cmd_generate.specs.GenerateAnswer.{generate_statuses}
+use Rattle.som_cmd_towers.specs.Answer.{tower_statuses}
+use Rattle.som_cmd_towers.specs.Ends.{TellsTowerLine}
 use Rattle.som_cmd.specs.Answer.{bad_line}
-use Rattle.som_cmd.specs.Words.{Asked, Run, Show, Check, Library, Client, Tasks, Witness, Generate, Bad}
+use Rattle.som_cmd.specs.Words.{Asked, Run, Show, Check, Library, Client, Tasks, Witness, Generate, Tower, Bad}
 
 -- the statuses of what is asked for; words of no form are refused, or the sink fails or memory runs out meanwhile
 abbrev pub statuses_of : Asked → List ℕ
@@ -24,6 +26,7 @@ statuses_of (Client out library names) = client_statuses
 statuses_of (Tasks library turns clients) = tasks_statuses
 statuses_of (Witness out old new) = witness_statuses
 statuses_of (Generate count) = generate_statuses
+statuses_of (Tower what) = tower_statuses what
 statuses_of Bad = 2 ∷ 8 ∷ 10 ∷ []
 
 -- a run that is refused tells it by one line alone, and so do turns: an image isn't there, can't be read or breaks a rule, or the library doesn't keep what the client, or one of them, was compiled against
@@ -36,6 +39,7 @@ TellsOneLine (Client out library names) status old new = Unit {0}
 TellsOneLine (Tasks library turns clients) status old new = (status ≡ 4) ⊎ (status ≡ 5) ⊎ (status ≡ 7) → TellsRefusal (IsTasksRefusal library clients) status old new
 TellsOneLine (Witness out older newer) status old new = Unit {0}
 TellsOneLine (Generate count) status old new = Unit {0}
+TellsOneLine (Tower what) status old new = TellsTowerLine what status old new
 TellsOneLine Bad status old new = Unit {0}
 
 -- the one line for words of no form was written at status 2, and at any other a front of it

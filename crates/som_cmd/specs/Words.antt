@@ -1,5 +1,5 @@
 -- The forms of the words.
-use Rattle.std.specs.Prelude.{ℕ, ◌+◌, ◌-◌, ◌*◌, List, [], ◌∷◌, ◌&&◌, ◌||◌, Bool, false, not, length, codes, ◌==◌, nat_eq, nat_le, Option, Some, None, if◌then◌else◌}
+use Rattle.std.specs.Prelude.{ℕ, suc, ◌+◌, ◌-◌, ◌*◌, List, [], ◌∷◌, ◌&&◌, ◌||◌, Bool, false, not, length, take, drop, codes, ◌==◌, nat_eq, nat_le, Option, Some, None, if◌then◌else◌}
 use Rattle.std.specs.Str.{bytes_eq}
 use Rattle.std.specs.List.{ends_with}
 use Rattle.som_model.specs.declared.limits.TheConstants.{DEFAULT_FUEL, MAX_FUEL}
@@ -10,12 +10,15 @@ use Rattle.som_generator.specs.declared.limits.TheConstants.{MAX_CLASSES}
 use Rattle.som_cmd_main.specs.Traces.{shown_in}
 use Rattle.som_cmd_tasks.specs.declared.limits.TheConstants.{MAX_CLIENTS, MAX_PATTERN, MAX_ROUNDS}
 use Rattle.som_cmd_tasks.specs.Patterns.{names_client, turns_given}
+use Rattle.som_towerimage.specs.declared.level.TheConstants.{MAX_BELOW_CLIENT}
+use Rattle.som_towerimage.specs.Spelling.{most_below}
+use Rattle.som_cmd_towers.specs.Asked.{TowerAsked, Make, Compare, RunOn, tower_by}
 use Rattle.som_cmd.specs.declared.words.Command.{Command}
 use Rattle.som_cmd.specs.declared.words.Command.TheVariants as commands
 
 -- what words ask for: to run a client image on a library image with so much fuel, and to show these calls, by the name of the class whose body it is; to show an image;
 -- to check images; to compile texts to a library image, or to a client image against a library image; to give client images on a library image these turns;
--- to put under a name the image of the client that shows what one image doesn't keep of another; to generate so many classes;
+-- to put under a name the image of the client that shows what one image doesn't keep of another; to generate so many classes; something of towers;
 -- or they have no form
 pub data Asked : Type 0 where
   Run : (client library : List ℕ) (fuel : ℕ) (shows : List ℕ → Bool) → Asked
@@ -26,6 +29,7 @@ pub data Asked : Type 0 where
   Tasks : (library turns : List ℕ) (clients : List (List ℕ)) → Asked
   Witness : (out old new : List ℕ) → Asked
   Generate : (count : ℕ) → Asked
+  Tower : (what : TowerAsked) → Asked
   Bad : Asked
 
 -- what a command of the code asks for
@@ -38,6 +42,7 @@ asked_by (commands.Client out library files) = Client out.now library.now files.
 asked_by (commands.Tasks library pattern rounds clients) = Tasks library.now (turns_given pattern.now rounds) clients.now
 asked_by (commands.Witness out old new) = Witness out.now old.now new.now
 asked_by (commands.Generate count) = Generate count
+asked_by (commands.Tower tower) = Tower (tower_by tower)
 asked_by commands.Bad = Bad
 
 abbrev pub is_digit : ℕ → Bool
@@ -152,8 +157,60 @@ generate_with None = Bad
 abbrev pub generate_asked : List ℕ → Asked
 generate_asked word = generate_with (count_of word)
 
+-- how many words stand before the first that passes a test
+abbrev pub count_before : (List ℕ → Bool) → List (List ℕ) → ℕ
+count_before test [] = 0
+count_before test (word ∷ words) = if test word then 0 else suc (count_before test words)
+
+-- names of levels, one at least and so many at most, and none of them empty
+abbrev pub are_levels : ℕ → List (List ℕ) → Bool
+are_levels most below = nat_le 1 (length below) && nat_le (length below) most && every is_name below
+
+-- files of texts, one at least, and at most one of them with a main
+abbrev pub are_texts : List (List ℕ) → Bool
+are_texts files = not (length files == 0) && every is_file files && nat_le (mains_in files) 1
+
+-- what `tower make` asks for with a name, names of levels and files: a client, where there is a main, may have a level more below it
+abbrev pub make_with : List ℕ → List (List ℕ) → List (List ℕ) → Asked
+make_with out below files = if is_name out && are_levels (most_below (mains_in files == 1)) below && are_texts files then Tower (Make out below files) else Bad
+
+-- what `tower make` asks for with a name and the words after it: files stand last
+abbrev pub make_asked : List ℕ → List (List ℕ) → Asked
+make_asked out words = make_with out (take (count_before is_file words) words) (drop (count_before is_file words) words)
+
+-- what `tower check` asks for with a name and the words after it, which are one more
+abbrev pub compare_asked : List ℕ → List (List ℕ) → Asked
+compare_asked old (new ∷ []) = if is_name old && is_name new then Tower (Compare old new) else Bad
+compare_asked old _ = Bad
+
+-- the word before a number for the fuel
+abbrev pub is_fuel_flag : List ℕ → Bool
+is_fuel_flag word = bytes_eq word (codes "--fuel")
+
+-- the fuel that words ask for: `--fuel N` or nothing
+abbrev pub fuel_in : List (List ℕ) → Option ℕ
+fuel_in [] = Some DEFAULT_FUEL
+fuel_in (flag ∷ word ∷ []) = if is_fuel_flag flag then fuel_of word else None
+fuel_in _ = None
+
+-- a client on levels with this fuel, if there is one
+abbrev pub run_on_with : List ℕ → List (List ℕ) → Option ℕ → Asked
+run_on_with client below (Some fuel) = if is_name client && are_levels MAX_BELOW_CLIENT below then Tower (RunOn client below fuel) else Bad
+run_on_with client below None = Bad
+
+-- what `tower run` asks for with a name and the words after it: no level's name is `--fuel`
+abbrev pub run_on_asked : List ℕ → List (List ℕ) → Asked
+run_on_asked client words = run_on_with client (take (count_before is_fuel_flag words) words) (fuel_in (drop (count_before is_fuel_flag words) words))
+
+-- what `tower` asks for with two words, and the words after these: `make OUT BELOW .. FILE ..`, `check OLD NEW` or `run CLIENT BELOW ..`
+abbrev pub tower_asked : List ℕ → List ℕ → List (List ℕ) → Asked
+tower_asked kind name words =
+    if bytes_eq kind (codes "make") then make_asked name words else (
+    if bytes_eq kind (codes "check") then compare_asked name words else (
+    if bytes_eq kind (codes "run") then run_on_asked name words else Bad))
+
 -- `show IMAGE`, `generate N`, `run CLIENT LIBRARY`, then `--fuel N` or not, then `--trace`, `--trace CLASS` or neither, `check IMAGE IMAGE ..`,
--- `library OUT FILE ..`, `client OUT LIBRARY FILE ..`, `tasks LIBRARY PATTERN ROUNDS CLIENT ..` or `witness OUT OLD NEW`, where no name is empty
+-- `library OUT FILE ..`, `client OUT LIBRARY FILE ..`, `tasks LIBRARY PATTERN ROUNDS CLIENT ..`, `witness OUT OLD NEW` or one of `tower`, where no name is empty
 abbrev pub asked : List (List ℕ) → Asked
 asked (word ∷ image ∷ []) =
     if bytes_eq word (codes "show") && not (length image == 0) then Show image else (if bytes_eq word (codes "generate") then generate_asked image else Bad)
@@ -162,5 +219,6 @@ asked (word ∷ client ∷ library ∷ rest) =
     if bytes_eq word (codes "library") then library_asked client (library ∷ rest) else (
     if bytes_eq word (codes "client") then client_asked client library rest else (
     if bytes_eq word (codes "tasks") then tasks_asked client library rest else (
-    if bytes_eq word (codes "witness") then witness_asked client library rest else asked_of word (client ∷ library ∷ rest)))))
+    if bytes_eq word (codes "witness") then witness_asked client library rest else (
+    if bytes_eq word (codes "tower") then tower_asked client library rest else asked_of word (client ∷ library ∷ rest))))))
 asked words = Bad

@@ -3,6 +3,7 @@
 
 mod laws;
 mod top;
+mod tower_words;
 mod words;
 
 pub use laws::{answer_law, chain_law, count_law, fuel_law, witness_chain_law, witness_texts_law};

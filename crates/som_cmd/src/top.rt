@@ -34,6 +34,7 @@ use som_cmd_generate::generate;
 use som_cmd_run::run_client;
 use som_cmd_steps::{line_of, say};
 use som_cmd_tasks::{alone_law, run_tasks};
+use som_cmd_towers::do_tower;
 use som_cmd_witness::witness_images;
 use som_host::HostTable;
 use som_io::{Sink, Store};
@@ -89,6 +90,7 @@ fn do_command<S: Store, K: Sink>(
             new,
         } => witness_images(alloc, name, old, new, store, out),
         Command::Generate { count } => generate(alloc, count, host, out),
+        Command::Tower(command) => do_tower(alloc, command, store, out, host),
         Command::Bad => match line_of(alloc, b"som: bad command line") {
             Ok(line) => say(out, &line, 2),
             Err(_) => 10,
@@ -203,7 +205,7 @@ pub fn run_som<S: Store, K: Sink>(
     // Over a store and a sink of which nothing is set to fail, neither is said to fail.
     ensures calm { S.calm store.old → K.calm out.old → IsTrue (is_calm_status result) }
 
-    // No file is changed, but by `library`, `client` and `witness`, which put an image at status 0; or the store failed in this call, what was written says that their put did,
+    // No file is changed, but by `library`, `client`, `witness` and `tower make`, which put an image at status 0; or the store failed in this call, what was written says that their put did,
     // and the files are as such a put may leave them.
     ensures files { KeepsFiles (asked words.now) (S.files store.old) (S.faults store.old) (S.faults store.new) result (S.files store.new) (K.written out.old) (K.written out.new) }
 {

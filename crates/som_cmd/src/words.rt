@@ -9,8 +9,10 @@ ghost use Rattle.std.specs.Option.{option_map};
 ghost use Rattle.std.specs.Prelude.{codes, length, ◌≡◌};
 ghost use Rattle.std.specs.Str.{bytes_eq};
 
+use crate::tower_words::tower_asked;
 use som_cmd_run::Trace;
 use som_cmd_tasks::{MAX_CLIENTS, MAX_PATTERN, MAX_ROUNDS};
+use som_cmd_towers::TowerCommand;
 use som_generator::MAX_CLASSES;
 use som_model::{DEFAULT_FUEL, List, MAX_FUEL, Text};
 
@@ -52,6 +54,7 @@ pub enum Command<'a> {
     Generate {
         count: u32,
     },
+    Tower(TowerCommand<'a>),
     /// The words have no form.
     Bad,
 }
@@ -104,13 +107,19 @@ fn is_generate(word: &Text) -> bool
     word.is(b"generate")
 }
 
+fn is_tower(word: &Text) -> bool
+    ensures { result ≡ bytes_eq word.now (codes "tower") }
+{
+    word.is(b"tower")
+}
+
 fn is_main(word: &Text) -> bool
     ensures { result ≡ is_main word.now }
 {
     word.as_slice().ends_with(b".main")
 }
 
-fn is_file(word: &Text) -> bool
+pub(crate) fn is_file(word: &Text) -> bool
     ensures { result ≡ is_file word.now }
 {
     let name = word.as_slice();
@@ -119,7 +128,7 @@ fn is_file(word: &Text) -> bool
 
 // How many of the words name a file with a main.
 #[tactic(auto, using(crate::proofs::WordLaws::one_main, crate::proofs::WordLaws::no_main, crate::proofs::WordLaws::none_counted, crate::proofs::WordLaws::all_counted))]
-fn mains(words: &[Text]) -> usize
+pub(crate) fn mains(words: &[Text]) -> usize
     ensures { result ≡ mains_in words.now }
 {
     let mut count = 0usize;
@@ -131,20 +140,27 @@ fn mains(words: &[Text]) -> usize
     count
 }
 
-// Whether each word names a file, and so many of them one with a main.
-fn are_files(wanted: usize, words: &[Text]) -> bool
-    ensures { result ≡ are_files wanted words.now }
+// Whether each word names a file.
+pub(crate) fn all_files(words: &[Text]) -> bool
+    ensures { result ≡ every is_file words.now }
 {
     for word in words {
         if !is_file(word) {
             return false;
         }
     }
-    mains(words) == wanted
+    true
+}
+
+// Whether each word names a file, and so many of them one with a main.
+fn are_files(wanted: usize, words: &[Text]) -> bool
+    ensures { result ≡ are_files wanted words.now }
+{
+    all_files(words) && mains(words) == wanted
 }
 
 // Whether none of the words is empty.
-fn are_names(words: &[Text]) -> bool
+pub(crate) fn are_names(words: &[Text]) -> bool
     ensures { result ≡ every is_name words.now }
 {
     for word in words {
@@ -208,7 +224,7 @@ fn is_digit(byte: u8) -> bool
 }
 
 // The number of a word of decimal digits, if it isn't too great a fuel.
-fn value_of(digits: &[u8]) -> Option<u32>
+pub(crate) fn value_of(digits: &[u8]) -> Option<u32>
     ensures { result ≡ fuel_of digits.now }
 {
     if digits.is_empty() || leads_with_zero(digits) {
@@ -444,6 +460,8 @@ pub fn command_of(words: &List<Text>) -> Command<'_>
                 tasks_with(client, library, rest)
             } else if is_witness(word) {
                 witness_with(client, library, rest)
+            } else if is_tower(word) {
+                tower_asked(client, library, rest)
             } else {
                 command_with(word, &words.as_slice()[1..])
             }

@@ -10,8 +10,10 @@ use Rattle.som_cmd_tasks.specs.Patterns.{turns_given}
 use Rattle.som_cmd_tasks.specs.TasksAnswer.{IsTasksAnswer}
 use Rattle.som_cmd_witness.specs.WitnessAnswer.{IsWitnessAnswer}
 use Rattle.som_cmd_generate.specs.GenerateAnswer.{IsGenerateAnswer}
-use Rattle.som_cmd.specs.Words.{asked, Run, Show, Check, Library, Client, Tasks, Witness, Generate, Bad}
-use Rattle.som_cmd.specs.Answer.{runs, shows, checks, compiles, compiles_client, takes_turns, shows_breach, generates}
+use Rattle.som_cmd_towers.specs.Answer.{IsTowerAnswer}
+use Rattle.som_cmd_towers.specs.Asked.{tower_by}
+use Rattle.som_cmd.specs.Words.{asked, Run, Show, Check, Library, Client, Tasks, Witness, Generate, Tower, Bad}
+use Rattle.som_cmd.specs.Answer.{runs, shows, checks, compiles, compiles_client, takes_turns, shows_breach, generates, answers_tower}
 use Rattle.som_cmd.proofs.EndLaws.{among, answered, bad_ends, bad_fronts, bad_status, bad_told, bad_untold, files_kept, front, generated_asked, generated_some, generated_told, none_written, one_line, store_failed}
 use Rattle.som_cmd.proofs.WordLaws.{asked_mains, mains_by}
 use Rattle.som_cmd.proofs.top.do_command.Goals as goal
@@ -227,6 +229,33 @@ returns-in-Generate-clause-calm g c = λ store sink. c.generate.ensures.calm sin
 
 pub returns-in-Generate-clause-files : goal.returns-in-Generate-clause-files
 returns-in-Generate-clause-files g c = files_kept (asked c.args.words.now) (Generate c.in-Generate.count) c.in-Generate.ensures (g.S.Store.files c.args.store.now) (g.S.Store.faults c.args.store.now) (g.S.Store.faults c.args.store.now) c.generate.result (g.S.Store.files c.args.store.now) (g.K.Sink.written c.args.out.now) (g.K.Sink.written c.generate.new.out) refl
+
+-- ---- towers
+
+pub returns-in-Tower-clause-answered : goal.returns-in-Tower-clause-answered
+returns-in-Tower-clause-answered g c = λ not6 not8 not10.
+    answered (asked c.args.words.now) (Tower (tower_by c.in-Tower.command)) c.in-Tower.ensures (IsTowerAnswer (tower_by c.in-Tower.command)) (λ files e a. answers_tower (tower_by c.in-Tower.command) e a) (g.S.Store.files c.args.store.now) c.do_tower.result (g.S.Store.files c.do_tower.new.store) (g.K.Sink.written c.args.out.now) (g.K.Sink.written c.do_tower.new.out) (c.do_tower.ensures.answered not6 not8 not10)
+
+pub returns-in-Tower-clause-statuses : goal.returns-in-Tower-clause-statuses
+returns-in-Tower-clause-statuses g c = among (asked c.args.words.now) (Tower (tower_by c.in-Tower.command)) c.in-Tower.ensures c.do_tower.result c.do_tower.ensures.statuses
+
+pub returns-in-Tower-clause-one_line : goal.returns-in-Tower-clause-one_line
+returns-in-Tower-clause-one_line g c = one_line (asked c.args.words.now) (Tower (tower_by c.in-Tower.command)) c.in-Tower.ensures c.do_tower.result (g.K.Sink.written c.args.out.now) (g.K.Sink.written c.do_tower.new.out) c.do_tower.ensures.one_line
+
+pub returns-in-Tower-clause-generates : goal.returns-in-Tower-clause-generates
+returns-in-Tower-clause-generates g c = generated_asked (asked c.args.words.now) (Tower (tower_by c.in-Tower.command)) c.in-Tower.ensures c.do_tower.result (g.K.Sink.written c.args.out.now) (g.K.Sink.written c.do_tower.new.out) tt
+
+pub returns-in-Tower-clause-store_failed : goal.returns-in-Tower-clause-store_failed
+returns-in-Tower-clause-store_failed g c = λ six. store_failed (asked c.args.words.now) (Tower (tower_by c.in-Tower.command)) c.in-Tower.ensures (g.S.Store.files c.args.store.now) (g.S.Store.faults c.args.store.now) (g.S.Store.faults c.do_tower.new.store) (g.K.Sink.written c.args.out.now) (g.K.Sink.written c.do_tower.new.out) (c.do_tower.ensures.store_failed six)
+
+pub returns-in-Tower-clause-front : goal.returns-in-Tower-clause-front
+returns-in-Tower-clause-front g c = λ either. front (asked c.args.words.now) (Tower (tower_by c.in-Tower.command)) c.in-Tower.ensures (IsTowerAnswer (tower_by c.in-Tower.command)) (λ files e a. answers_tower (tower_by c.in-Tower.command) e a) (g.S.Store.files c.args.store.now) (g.S.Store.faults c.args.store.now) (g.S.Store.faults c.do_tower.new.store) (g.K.Sink.written c.args.out.now) (g.K.Sink.written c.do_tower.new.out) (c.do_tower.ensures.front either)
+
+pub returns-in-Tower-clause-files : goal.returns-in-Tower-clause-files
+returns-in-Tower-clause-files g c = files_kept (asked c.args.words.now) (Tower (tower_by c.in-Tower.command)) c.in-Tower.ensures (g.S.Store.files c.args.store.now) (g.S.Store.faults c.args.store.now) (g.S.Store.faults c.do_tower.new.store) c.do_tower.result (g.S.Store.files c.do_tower.new.store) (g.K.Sink.written c.args.out.now) (g.K.Sink.written c.do_tower.new.out) c.do_tower.ensures.files
+
+pub do_tower-requires : goal.do_tower-requires
+do_tower-requires g c = mains_by c.args.words.now (Tower (tower_by c.in-Tower.command)) c.in-Tower.ensures
 
 -- ---- words of no form
 

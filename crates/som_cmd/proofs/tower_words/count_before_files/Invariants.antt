@@ -1,0 +1,6 @@
+use Rattle.som_cmd.specs.Words.{is_file}
+use Rattle.som_cmd.proofs.TowerWordLaws.{BeforeSoFar}
+use Rattle.som_cmd.proofs.tower_words.count_before_files.Given as goal
+
+abbrev pub invariant-loop-word : goal.invariant-loop-word
+invariant-loop-word l = BeforeSoFar is_file l.words l.word-index l.count
