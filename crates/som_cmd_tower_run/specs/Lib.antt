@@ -1,0 +1,6 @@
+pub mod Steps
+pub mod Kernels
+pub mod Refusals
+pub mod TowerRunAnswer
+pub mod TowerRunEnds
+pub mod TowerNewest

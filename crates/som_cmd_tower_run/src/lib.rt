@@ -1,0 +1,11 @@
+//! The command `tower run`: a client of a tower on the libraries below it.
+#![tactic(auto)]
+
+mod checking;
+mod laying;
+mod run;
+mod tower;
+
+pub use laying::link_tower;
+pub use run::run_tower;
+pub use tower::Tower;

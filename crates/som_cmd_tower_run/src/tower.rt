@@ -1,0 +1,11 @@
+//! The type of a tower that was read: the levels of libraries, and the client above them.
+
+use som_cmd_levels::LevelsBelow;
+use som_towerimage::Level;
+
+/// The levels of a tower, from the lowest up, and the client above them.
+#[derive(Drop)]
+pub struct Tower {
+    pub levels: LevelsBelow,
+    pub client: Level,
+}
