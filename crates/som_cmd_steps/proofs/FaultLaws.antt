@@ -1,8 +1,8 @@
 -- Reading never comes to want of memory.
-use Rattle.std.proofs.Common.{◌≡◌, ℕ, ◌+◌, ◌==◌, ◌&&◌, nat_lt, nat_le, nat_eq, List, [], ◌∷◌, length, drop, Result, Err, subst}
+use Rattle.std.proofs.Common.{◌≡◌, ℕ, ◌+◌, ◌==◌, ◌&&◌, nat_lt, nat_le, nat_eq, List, [], ◌∷◌, length, drop, Option, Some, None, Result, Err, subst}
 use Rattle.std.specs.Prelude.{codes}
 use Rattle.std.specs.List.{starts_with}
-use Rattle.std.specs.Int.{w8, w16}
+use Rattle.std.specs.Int.{Width, w8, w16, w32}
 use Rattle.som_model.specs.declared.limits.TheConstants.{MAX_CLIENT_CLASSES, MAX_LIBRARY_CLASSES}
 use Rattle.som_model.specs.declared.program.Release.{Release}
 use Rattle.som_model.specs.declared.program.ClientProgram.{ClientProgram}
@@ -17,7 +17,8 @@ use Rattle.som_wire.specs.Reading.{block_at, part_at, selects_at}
 use Rattle.som_image_classes.specs.ReadClasses.{each_at, faces_after_at, faces_at, parts_at, magic_at, head_at, section_at, ranges_of, introduced_count}
 use Rattle.som_libimage.specs.Reading.{classes_at, wire_at}
 use Rattle.som_libimage.specs.Libraries.{library_at}
-use Rattle.som_cliimage.specs.Forms.{any_form}
+use Rattle.som_cliimage.specs.declared.form.ClientForm.{ClientForm}
+use Rattle.som_cliimage.specs.Forms.{any_form, asked_at}
 use Rattle.som_cliimage.specs.Reading.{client_ranges, own_faces_at, program_at, image_at, wire_at as client_wire_at}
 use Rattle.som_cliimage.specs.Programs.{client_at}
 use Rattle.som_image_fields.specs.declared.fault.ImageFault.TheVariants as faults
@@ -56,7 +57,7 @@ classes_reads version bytes place = then_reads (faces_at bytes place) _ (faces_r
 magic_reads : (magic bytes : List ℕ) (place : ℕ) → Reads (magic_at magic bytes place)
 magic_reads magic bytes place = either_reads (starts_with nat_eq (drop place bytes) magic) _ _ tt (either_reads (starts_with nat_eq magic (drop place bytes)) _ _ tt tt)
 
-head_reads : (magic : List ℕ) (newest : ℕ) (bytes : List ℕ) (place : ℕ) → Reads (head_at magic newest bytes place)
+pub head_reads : (magic : List ℕ) (newest : ℕ) (bytes : List ℕ) (place : ℕ) → Reads (head_at magic newest bytes place)
 unfolding head_at
 head_reads magic newest bytes place = then_reads (magic_at magic bytes place) _ (magic_reads magic bytes place) (λ start. then_reads (number_at w8 bytes start) _ (number_reads w8 bytes start) (λ version. either_reads (nat_le 1 version.value && nat_le version.value newest) _ _ tt tt))
 
@@ -64,7 +65,7 @@ wire_reads : (bytes : List ℕ) → Reads (wire_at bytes)
 unfolding wire_at
 wire_reads bytes = then_reads (head_at (codes "SOML") 2 bytes 0) _ (head_reads (codes "SOML") 2 bytes 0) (λ version. then_reads (classes_at version.value bytes version.next) _ (classes_reads version.value bytes version.next) (λ release. either_reads (nat_lt release.next (length bytes)) _ _ tt tt))
 
-library_reads : (bytes : List ℕ) → Reads (library_at bytes)
+pub library_reads : (bytes : List ℕ) → Reads (library_at bytes)
 library_reads bytes = then_reads (wire_at bytes) _ (wire_reads bytes) (λ w. tt)
 
 -- so a library image's fault is one of its bytes
@@ -73,20 +74,29 @@ no_want bytes e = let P : Result Release ImageFault → Type 0 = λ r. Reads r i
 
 -- ---- client images
 
-program_reads : (version : ℕ) (bytes : List ℕ) (place : ℕ) → Reads (program_at any_form version bytes place)
+-- a number that is asked for
+asked_reads : (w : Width) (asked : Option ℕ) (bytes : List ℕ) (place : ℕ) → Reads (asked_at w asked bytes place)
+asked_reads w None bytes place = tt
+asked_reads w (Some n) bytes place = then_reads (number_at w bytes place) _ (number_reads w bytes place) (λ count. either_reads (count.value == n) _ _ tt tt)
+
+program_reads : (form : ClientForm) (version : ℕ) (bytes : List ℕ) (place : ℕ) → Reads (program_at form version bytes place)
 unfolding program_at
-program_reads version bytes place = then_reads (faces_at bytes place) _ (faces_reads bytes place) (λ base.
+program_reads form version bytes place = then_reads (asked_at w16 form.base_classes bytes place) _ (asked_reads w16 form.base_classes bytes place) (λ classes.
+    then_reads (faces_at bytes place) _ (faces_reads bytes place) (λ base.
     then_reads (own_faces_at base.value bytes base.next) _ (faces_after_read (length base.value + 4) MAX_CLIENT_CLASSES bytes base.next) (λ own.
     then_reads (parts_at (client_ranges base.value own.value) own.value bytes own.next) _ (parts_read (client_ranges base.value own.value) own.value bytes own.next) (λ parts.
     then_reads (section_at version (client_ranges base.value own.value) (length base.value + 4) bytes parts.next) _ (section_reads version (client_ranges base.value own.value) (length base.value + 4) bytes parts.next) (λ selects.
-    then_reads (block_at (levels_left 1) (client_ranges base.value own.value) bytes selects.next) _ (block_reads (levels_left 1) (client_ranges base.value own.value) bytes selects.next) (λ main. tt)))))
+    then_reads (asked_at w32 form.statements bytes selects.next) _ (asked_reads w32 form.statements bytes selects.next) (λ statements.
+    then_reads (block_at (levels_left 1) (client_ranges base.value own.value) bytes selects.next) _ (block_reads (levels_left 1) (client_ranges base.value own.value) bytes selects.next) (λ main. tt)))))))
 
-client_wire_reads : (bytes : List ℕ) → Reads (client_wire_at bytes)
+-- also one that stands after other bytes, of any form
+pub image_reads : (form : ClientForm) (bytes : List ℕ) (place : ℕ) → Reads (image_at form bytes place)
 unfolding image_at
-client_wire_reads bytes = then_reads (head_at (codes "SOMC") 2 bytes 0) _ (head_reads (codes "SOMC") 2 bytes 0) (λ version. then_reads (program_at any_form version.value bytes version.next) _ (program_reads version.value bytes version.next) (λ program. either_reads (nat_lt program.next (length bytes)) _ _ tt tt))
+image_reads form bytes place = then_reads (head_at (codes "SOMC") 2 bytes place) _ (head_reads (codes "SOMC") 2 bytes place) (λ version.
+    then_reads (program_at form version.value bytes version.next) _ (program_reads form version.value bytes version.next) (λ program. either_reads (nat_lt program.next (length bytes)) _ _ tt tt))
 
 client_reads : (bytes : List ℕ) → Reads (client_at bytes)
-client_reads bytes = then_reads (client_wire_at bytes) _ (client_wire_reads bytes) (λ w. tt)
+client_reads bytes = then_reads (client_wire_at bytes) _ (image_reads any_form bytes 0) (λ w. tt)
 
 -- so a client image's fault is one of its bytes
 pub no_client_want : (bytes : List ℕ) → client_at bytes ≡ Err faults.NoMemory → ⊥

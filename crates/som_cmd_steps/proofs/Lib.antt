@@ -4,10 +4,10 @@ pub mod ByteLaws
 pub mod ReleaseLaws
 pub mod InTurn
 mod SayLaws
-mod FieldFaults
+pub mod FieldFaults
 mod BlockFaults
 mod SelectFaults
-mod FaultLaws
+pub mod FaultLaws
 pub mod Printed
 pub mod OutcomeLaws
 pub mod Statuses

@@ -15,7 +15,7 @@ mod stop;
 
 pub use client_image::{look_at_program, read_program, sound_program};
 pub use files::{fetch, fetch_all};
-pub use image_lines::{refuse_breach, refuse_broken, refuse_incompatible};
+pub use image_lines::{refuse_breach, refuse_broken, refuse_bytes, refuse_incompatible};
 pub use laws::fault_law;
 pub use library_image::{look_at_rules, read_release, sound_release};
 pub use line::{line_of, named_line};

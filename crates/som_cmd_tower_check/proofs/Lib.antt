@@ -1,0 +1,6 @@
+mod Reading
+mod Getting
+mod Refusing
+mod Promising
+pub mod CheckLaws
+pub mod CheckEndLaws

@@ -1,0 +1,3 @@
+pub mod Libraries
+pub mod TowerCheckAnswer
+pub mod TowerCheckEnds
