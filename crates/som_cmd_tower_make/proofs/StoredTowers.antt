@@ -107,7 +107,16 @@ under_at files (n ∷ ns) [] under i l at = absurd under
 under_at files (n ∷ ns) (x ∷ ls) under zero l at = let same : x ≡ l = (let z = at in cc) in subst (Under files) same (record { name = n; under = under.0 })
 under_at files (n ∷ ns) (x ∷ ls) under (suc i) l at = under_at files ns ls under.1 i l at
 
+many_under : (files : Files) (names : List (List ℕ)) (ls : List Level) → AreLevelsUnder files names ls → length ls ≡ length names
+many_under files [] [] under = refl
+many_under files [] (l ∷ ls) under = absurd under
+many_under files (n ∷ ns) [] under = absurd under
+many_under files (n ∷ ns) (l ∷ ls) under = ap suc (many_under files ns ls under.1)
+
 -- ---- all libraries
+
+pub uppers_many : (files : Files) (first : List ℕ) (others : List (List ℕ)) (base : Release) (uppers : List Level) → AreTowerUnder files first others base uppers → length uppers ≡ length others
+uppers_many files first others base uppers t = many_under files others uppers t.uppers_under
 
 module _ (files : Files) (first : List ℕ) (others : List (List ℕ)) (base : Release) (uppers : List Level) (t : AreTowerUnder files first others base uppers) (few : length uppers + 1 ≤ 8) where
   abbrev names : List (List ℕ)
@@ -144,6 +153,9 @@ module _ (files : Files) (first : List ℕ) (others : List (List ℕ)) (base : R
   images_got =
       ap (λ (x : Result (List ℕ) Refusal). x >>= λ b. images_in others files >>= λ bs. Ok (b ∷ bs)) (got_by (get files first) first t.base_under.bytes t.base_under.image_is)
       ∙ ap (λ (x : Result (List (List ℕ)) Refusal). x >>= λ bs. Ok (t.base_under.bytes ∷ bs)) there.got
+
+  pub images_many : length images ≡ length names
+  images_many = ap suc there.many
 
   read : levels_in names images ≡ Ok below
   read =

@@ -20,9 +20,12 @@ use Rattle.som_cmd_tower_make.specs.TowerMakeAnswer.{IsTowerMade, IsTowerMakeAns
 use Rattle.som_cmd_tower_make.specs.TowerMakeEnds.{HoldsLevelTexts, PutsLevel}
 use Rattle.som_cmd_tower_make.specs.TowerParts.{base_in, base_of, tower_in}
 use Rattle.som_cmd_tower_make.proofs.SoundBases.{base_sound}
-use Rattle.som_cmd_tower_make.proofs.StoredTowers.{base_there, images, images_got, images_many}
+use Rattle.som_cmd_tower_make.proofs.StoredTowers.{base_there, images, images_got, images_many, uppers_many}
 use Rattle.som_cmd_tower_make.proofs.TowerAnswered.{few_levels, one_tower_answer, sizes_below}
 use Rattle.som_cmd_tower_make.proofs.TowerSteps.{all_parts}
+
+abbrev level_with : ClientProgram → List ℕ → Bool → Level
+level_with p sizes client = record { sizes = sizes; program = p; client = client }
 
 module _ (files : Files) (first : List ℕ) (others names : List (List ℕ)) (l : Level) (m : HoldsLevelTexts files first others names l) (few : length (first ∷ others) ≤ most_below (has_main names)) where
   abbrev below : List (List ℕ)
@@ -35,7 +38,7 @@ module _ (files : Files) (first : List ℕ) (others names : List (List ℕ)) (l 
   client = has_main names
 
   few_uppers : length m.uppers + 1 ≤ 8
-  few_uppers = let n = few_levels client (length below) few in let many = uppers_many m.tower in omega (arith, n, many)
+  few_uppers = let n = few_levels client (length below) few in let many = uppers_many files first others m.base m.uppers m.tower in omega (arith, n, many)
 
   there : base_in below (images files first others m.base m.uppers m.tower few_uppers) ≡ Ok (base_of is)
   there = base_there files first others m.base m.uppers m.tower few_uppers m.sound
@@ -46,13 +49,13 @@ module _ (files : Files) (first : List ℕ) (others names : List (List ℕ)) (l 
   parts_there : tower_in below names files ≡ Ok parts
   parts_there = all_parts below names files (images files first others m.base m.uppers m.tower few_uppers) m.texts (base_of is) (images_got files first others m.base m.uppers m.tower few_uppers) m.texts_are there
 
-  made : (image : List ℕ) × (tower_image (record { sizes = sizes_of is; program = l.program; client = client }) ≡ Some image)
+  made : (image : List ℕ) × (tower_image (level_with l.program (sizes_of is) client) ≡ Some image)
   made =
       let sound = base_sound below (images files first others m.base m.uppers m.tower few_uppers) (base_of is) (images_many files first others m.base m.uppers m.tower few_uppers) (omega arith) (few_levels client (length below) few) there in
       level_image (flat_interface is) (sizes_of is) client m.texts l.program sound.base (sizes_below client (length below) (base_of is) (omega arith) few sound) (texts_known names files m.texts m.texts_are).1 m.stand
 
-  same_level : record { sizes = sizes_of is; program = l.program; client = client } ≡ l
-  same_level = ?
+  same_level : level_with l.program (sizes_of is) client ≡ l
+  same_level = ap (λ (sizes : List ℕ). level_with l.program sizes client) (sym m.sizes) ∙ ap (level_with l.program l.sizes) (sym m.client)
 
   pub puts_level_by : (out : List ℕ) (status : ℕ) (new_files : Option Files) (old new : Option (List ℕ)) → EndsAs (IsTowerMakeAnswer out below names files) status new_files old new → (count now : ℕ)
       → LeavesFiles (IsTowerMade files below names) files out count now status new_files old new → PutsLevel files out l status new_files old new

@@ -4,17 +4,21 @@ ghost use Rattle.som_cmd_levels.specs.Levels.{AreLevelsOf, LevelsConform};
 ghost use Rattle.som_cmd_steps.specs.Cause.{IsQuiet};
 ghost use Rattle.som_cmd_steps.specs.Steps.{Follows};
 ghost use Rattle.som_cmd_tower_make.specs.TowerParts.{base_in, classes_kept, flat_in, flat_kept_or, standing_in};
+ghost use Rattle.som_cmd_steps.specs.Lines.{not_kept};
 ghost use Rattle.som_compat_levels.specs.Conditions.{AreLoadableLevels};
+ghost use Rattle.som_compat_levels.specs.Told.{IsTold};
 ghost use Rattle.som_flat.specs.Breaches.{flat_breach};
 ghost use Rattle.som_flat_laws.specs.Flat.{flat_interface as flat_of};
-ghost use Rattle.std.specs.Prelude.{IfOk, length, ◌≡◌, ◌≤◌};
+ghost use Rattle.som_model.specs.Compatible.{CompatBreach};
+ghost use Rattle.som_order.specs.Names.{name_at};
+ghost use Rattle.std.specs.Prelude.{IfOk, length, ℕ, ◌<◌, ◌≡◌, ◌≤◌};
 
 use som_cmd_levels::{LevelsBelow, level_name, look_at_levels, read_levels, refuse_level_breach};
 use som_cmd_sources::refuse_limit;
-use som_cmd_steps::{CommandStop, refuse_broken};
-use som_compat_levels::LevelFault;
+use som_cmd_steps::{CommandStop, Refusal, refuse_broken};
+use som_compat_levels::{LevelBreach, LevelFault};
 use som_flat::{FlatFault, flat_interface, flat_rules, sizes_of};
-use som_model::{Interface, List, MAX_LIBRARY_CLASSES, Text};
+use som_model::{Interface, List, MAX_LIBRARY_CLASSES, NoMemory, Text};
 use som_tower::standing_levels;
 use std::alloc::Global;
 
@@ -23,6 +27,14 @@ use std::alloc::Global;
 pub struct TowerBase {
     pub interface: Interface,
     pub sizes: List<u16>,
+}
+
+// The refusal that tells what a level doesn't keep, under its name.
+fn refuse_level(alloc: Global, names: &[Text], breach: &LevelBreach) -> Result<Refusal, NoMemory>
+    requires { breach.now.level < length names.now }
+    ensures { (found : ℕ × CompatBreach) → IsTold found breach.now → IfOk result (λ r. r ≡ not_kept (name_at names.now breach.now.level) found.1) }
+{
+    refuse_level_breach(alloc, level_name(names, breach), breach)
 }
 
 // The interfaces of libraries, where each keeps what those above it were compiled against.
@@ -41,13 +53,19 @@ fn standing(
 {
     match standing_levels(alloc, &below.base, &below.uppers) {
         Ok(interfaces) => Ok(interfaces),
-        Err(LevelFault::Breach(breach)) => Err(CommandStop::Refused(refuse_level_breach(
-            alloc,
-            level_name(names, &breach),
-            &breach,
-        )?)),
+        Err(LevelFault::Breach(breach)) => {
+            Err(CommandStop::Refused(refuse_level(alloc, names, &breach)?))
+        }
         Err(LevelFault::NoMemory) => Err(CommandStop::NoMemory),
     }
+}
+
+// The name at a place.
+fn name_of(names: &[Text], level: u8) -> &Text
+    requires { level < length names.now }
+    ensures { result.now ≡ name_at names.now level }
+{
+    &names[usize::from(level)]
 }
 
 // Goes on where the flat interface breaks no rule; else the refusal tells the first that it breaks, under the name of the level of the class.
@@ -67,7 +85,7 @@ fn look_at_flat(
         Ok(()) => Ok(()),
         Err(FlatFault::Rule { level, broken }) => Err(CommandStop::Refused(refuse_broken(
             alloc,
-            &names[usize::from(level)],
+            name_of(names, level),
             &broken,
         )?)),
         Err(FlatFault::NoMemory) => Err(CommandStop::NoMemory),

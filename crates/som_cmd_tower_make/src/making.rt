@@ -7,17 +7,18 @@ ghost use Rattle.som_cmd_steps.specs.Cause.{IsQuiet};
 ghost use Rattle.som_cmd_steps.specs.Outcomes.{EndsAsTold, ShowsSome, StoreFails};
 ghost use Rattle.som_cmd_steps.specs.Refusing.{HasStatusIn, RefusesAs};
 ghost use Rattle.som_cmd_steps.specs.Status.{is_calm_status};
-ghost use Rattle.som_cmd_tower_make.specs.Bases.{IsSoundBase};
 ghost use Rattle.som_cmd_tower_make.specs.Cause.{FailsGettingTower, FailsTowerMake};
 ghost use Rattle.som_cmd_tower_make.specs.Statuses.{tower_make_statuses};
 ghost use Rattle.som_cmd_tower_make.specs.TowerMakeAnswer.{CompilesTower, IsTowerMade, IsTowerMakeAnswer, has_main};
 ghost use Rattle.som_cmd_tower_make.specs.TowerParts.{tower_in};
+ghost use Rattle.som_compile.specs.Compiling.{IsBase};
 ghost use Rattle.som_io.specs.Outside.{Rose};
+ghost use Rattle.som_level_compile.specs.CompilingLevels.{AreSizesBelow};
 ghost use Rattle.som_model.specs.Lists.{Mem};
 ghost use Rattle.som_model.specs.declared.limits.TheConstants.{MAX_BYTES};
 ghost use Rattle.som_sources.specs.Sources.{bytes_in, is_main as is_main_name, mains_in, names_of};
 ghost use Rattle.som_towerimage.specs.Spelling.{most_below};
-ghost use Rattle.std.specs.Prelude.{IsTrue, length, ◌≡◌, ◌≢◌, ◌≤◌, ◌⊎◌};
+ghost use Rattle.std.specs.Prelude.{IsTrue, if◌then◌else◌, length, ◌≡◌, ◌≢◌, ◌≤◌, ◌⊎◌};
 
 use crate::base::TowerBase;
 use crate::parts::{TowerParts, fetch_tower};
@@ -50,10 +51,9 @@ fn has_main(names: &[Text]) -> bool
 // The tower image that the parts of a level are compiled to.
 #[tactic(auto, using(crate::proofs::MakeLaws::level_refused, som_cmd_build::proofs::CompileLaws::quietly))]
 fn image_of(alloc: Global, parts: TowerParts, client: bool) -> Result<List<u8>, CommandStop>
-    requires few { length parts.base.sizes ≤ most_below client }
-    requires some { 1 ≤ length parts.base.sizes }
-    requires sound { IsSoundBase (length parts.base.sizes) parts.base }
-    requires mains { mains_in (names_of parts.texts) ≡ mains_of client }
+    requires base { IsBase parts.base.interface }
+    requires sizes { AreSizesBelow parts.base.interface parts.base.sizes client }
+    requires mains { mains_in (names_of parts.texts) ≡ (if client then 1 else 0) }
     requires bytes { bytes_in parts.texts ≤ MAX_BYTES }
     ensures compiled { Compiled (CompilesTower client parts) result }
     ensures quiet { IsQuiet result }
