@@ -1,5 +1,5 @@
 -- Reading a tower image never comes to want of memory.
-use Rattle.std.proofs.Common.{◌≡◌, ℕ, ◌==◌, ◌&&◌, Bool, true, false, List, length, Result, Err, subst}
+use Rattle.std.proofs.Common.{◌≡◌, ℕ, ◌==◌, ◌&&◌, Bool, false, List, length, Result, Err, subst}
 use Rattle.std.specs.Prelude.{codes, nat_le, sum}
 use Rattle.std.specs.Int.{w8, w16}
 use Rattle.som_image_fields.specs.declared.fault.ImageFault.{ImageFault}
@@ -15,7 +15,7 @@ use Rattle.som_towerimage.specs.Reading.{below_at, flag_at, level_at, level_form
 use Rattle.som_cmd_steps.specs.ImageSteps.{are_bytes}
 use Rattle.som_cmd_steps.proofs.FaultLaws.{head_reads, image_reads}
 use Rattle.som_cmd_steps.proofs.FieldFaults.{Reads, either_reads, many_reads, number_reads, then_reads}
-use Rattle.som_cmd_levels.specs.LevelImages.{in_place, level_in, of_kind, placed_in, upper_in}
+use Rattle.som_cmd_levels.specs.LevelImages.{in_place, is_kind, level_in, of_kind, placed_in, upper_in}
 
 below_reads : (bytes : List ℕ) (place : ℕ) → Reads (below_at bytes place)
 below_reads bytes place = then_reads (number_at w8 bytes place) _ (number_reads w8 bytes place) (λ below. either_reads (nat_le 1 below.value && nat_le below.value MAX_BELOW_CLIENT) _ _ tt tt)
@@ -45,8 +45,7 @@ in_reads : (bytes : List ℕ) → Reads (level_in bytes)
 in_reads bytes = either_reads (are_bytes bytes) (level_at bytes) _ (level_reads bytes) tt
 
 kind_reads : (client : Bool) (l : Level) → Reads (of_kind client l)
-kind_reads true l = either_reads l.client _ _ tt tt
-kind_reads false l = either_reads l.client _ _ tt tt
+kind_reads client l = either_reads (is_kind client l) _ _ tt tt
 
 pub upper_reads : (bytes : List ℕ) → Reads (upper_in bytes)
 upper_reads bytes = then_reads (level_in bytes) (of_kind false) (in_reads bytes) (kind_reads false)

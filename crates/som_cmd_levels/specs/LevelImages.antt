@@ -1,5 +1,5 @@
 -- What reading a tower image at its place among other images answers.
-use Rattle.std.specs.Prelude.{ℕ, ◌==◌, Bool, true, false, if◌then◌else◌, List, length, Result, Ok, Err}
+use Rattle.std.specs.Prelude.{ℕ, ◌==◌, Bool, true, false, if◌then◌else◌, not, List, length, Result, Ok, Err}
 use Rattle.som_model.specs.Steps.{◌>>=◌}
 use Rattle.som_image_fields.specs.declared.fault.ImageFault.{ImageFault}
 use Rattle.som_image_fields.specs.declared.fault.ImageFault.TheVariants as faults
@@ -12,10 +12,14 @@ use Rattle.som_cmd_steps.specs.ImageSteps.{are_bytes, read_if, read_or}
 abbrev pub level_in : List ℕ → Result Level ImageFault
 level_in bytes = read_if (are_bytes bytes) (level_at bytes)
 
--- a level that is a client, or a library, as it is asked; else the fault is that of its flag
+-- whether a level is a client, or a library, as it is asked
+abbrev pub is_kind : Bool → Level → Bool
+is_kind true l = l.client
+is_kind false l = not l.client
+
+-- a level of the kind that is asked; else the fault is that of its flag
 abbrev pub of_kind : Bool → Level → Result Level ImageFault
-of_kind true l = if l.client then Ok l else Err (faults.Tag 6)
-of_kind false l = if l.client then Err (faults.Tag 6) else Ok l
+of_kind client l = if is_kind client l then Ok l else Err (faults.Tag 6)
 
 -- a level above as many levels as are asked, and of the kind that is asked; else the first fault is that of its number of levels, or that of its flag
 abbrev pub in_place : ℕ → Bool → Level → Result Level ImageFault

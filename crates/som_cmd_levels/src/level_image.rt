@@ -1,13 +1,13 @@
 //! The steps that decode a tower image and ask whether it stands at its place, or refuse it.
 
 ghost use Rattle.som_cliimage.specs.Limits.{IsWithinLimits};
-ghost use Rattle.som_cmd_levels.specs.LevelImages.{in_place, level_in, level_read, of_kind, placed_in, upper_in, upper_read};
+ghost use Rattle.som_cmd_levels.specs.LevelImages.{is_kind, level_in, level_read, placed_in, upper_in, upper_read};
 ghost use Rattle.som_cmd_levels.specs.Levels.{IsLevelAt};
 ghost use Rattle.som_cmd_steps.specs.Cause.{IsQuiet};
 ghost use Rattle.som_cmd_steps.specs.Steps.{Follows};
 ghost use Rattle.som_image_fields.specs.Fields.{Gives};
 ghost use Rattle.som_towerimage.specs.Spelling.{FitsTower};
-ghost use Rattle.std.specs.Prelude.{IfOk, false, length, ◌≡◌};
+ghost use Rattle.std.specs.Prelude.{IfOk, IsTrue, false, ◌≡◌};
 
 use som_cmd_steps::{CommandStop, refuse_bytes};
 use som_image_fields::ImageFault;
@@ -26,31 +26,12 @@ fn level_in(alloc: Global, bytes: &List<u8>) -> Result<Level, ImageFault>
     decode_level(alloc, bytes)
 }
 
-// A level that is a client, or a library, as it is asked.
-fn of_kind(level: Level, client: bool) -> Result<Level, ImageFault>
-    ensures exact { result ≡ of_kind client level }
-    ensures same { IfOk result (λ l. l ≡ level) }
-    ensures kind { IfOk result (λ l. l.client ≡ client) }
+// Whether a level is a client, or a library, as it is asked.
+fn is_kind(level: &Level, client: bool) -> bool
+    ensures exact { result ≡ is_kind client level.now }
+    ensures kind { IsTrue result → level.now.client ≡ client }
 {
-    if level.client == client {
-        Ok(level)
-    } else {
-        Err(ImageFault::Tag { offset: 6 })
-    }
-}
-
-// A level above as many others as are asked, and of the kind that is asked.
-fn in_place(level: Level, below: usize, client: bool) -> Result<Level, ImageFault>
-    ensures exact { result ≡ in_place below client level }
-    ensures same { IfOk result (λ l. l ≡ level) }
-    ensures levels { IfOk result (λ l. length l.sizes ≡ below) }
-    ensures kind { IfOk result (λ l. l.client ≡ client) }
-{
-    if level.sizes.len() == below {
-        of_kind(level, client)
-    } else {
-        Err(ImageFault::Number { offset: 5 })
-    }
+    if client { level.client } else { !level.client }
 }
 
 // The library of a tower image, or the first fault.
@@ -61,7 +42,10 @@ fn upper_in(alloc: Global, bytes: &List<u8>) -> Result<Level, ImageFault>
     ensures library { IfOk result (λ l. l.client ≡ false) }
 {
     let level = level_in(alloc, bytes)?;
-    of_kind(level, false)
+    if level.client {
+        return Err(ImageFault::Tag { offset: 6 });
+    }
+    Ok(level)
 }
 
 // The level of a tower image that stands at its place, or the first fault.
@@ -75,7 +59,13 @@ fn placed_in(
     ensures at { IfOk result (IsLevelAt below client) }
 {
     let level = level_in(alloc, bytes)?;
-    in_place(level, below, client)
+    if level.sizes.len() != below {
+        return Err(ImageFault::Number { offset: 5 });
+    }
+    if !is_kind(&level, client) {
+        return Err(ImageFault::Tag { offset: 6 });
+    }
+    Ok(level)
 }
 
 /// The library of a tower image, above however many levels, or the refusal that tells the first fault.

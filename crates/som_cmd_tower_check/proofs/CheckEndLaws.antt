@@ -1,5 +1,5 @@
 -- How the end of a call of `tower check` is that of its answer.
-use Rattle.std.proofs.Common.{◌≡◌, ℕ, ◌==◌, if◌then◌else◌, false, Bool, List, length, Option, Some, None, Result, Ok, Err, refl, sym, ap, ◌∙◌, arith}
+use Rattle.std.proofs.Common.{◌≡◌, ℕ, ◌==◌, if◌then◌else◌, not, false, Bool, List, length, Option, Some, None, Result, Ok, Err, refl, sym, ap, ◌∙◌, arith}
 use Rattle.std.proofs.lemmas.Bool.{eq-eqb}
 use Rattle.som_model.specs.Bytes.{Files}
 use Rattle.som_model.specs.Compatible.{CompatBreach}
@@ -30,7 +30,7 @@ use Rattle.som_cmd_tower_check.proofs.Reading.{with_both as both_images, with_ne
 
 -- a library is of its kind, and at its place
 of_library : (l : Level) → l.client ≡ false → of_kind false l ≡ Ok l
-of_library l e = ap (λ (b : Bool). if b then Err (faults.Tag 6) else Ok l) e
+of_library l e = ap (λ (b : Bool). if not b then Ok l else Err (faults.Tag 6)) e
 
 at_place : (below : ℕ) (l : Level) → l.client ≡ false → length l.sizes ≡ below → in_place below false l ≡ Ok l
 at_place below l e at = ap (λ (b : Bool). if b then of_kind false l else Err (faults.Number 5)) (eq-eqb (length l.sizes) below at) ∙ of_library l e
