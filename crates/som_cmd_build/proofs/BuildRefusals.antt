@@ -25,7 +25,7 @@ client_refused_in parts stop made = in_client stop (compiled_in (CompilesParts p
 
 -- ---- what is put
 
-none_in : (IsOne : Refusal → Type 0) (result : Result PutEnd CommandStop) → RefusesAs (λ r. ⊥) result → RefusesAs IsOne result
+pub none_in : (IsOne : Refusal → Type 0) (result : Result PutEnd CommandStop) → RefusesAs (λ r. ⊥) result → RefusesAs IsOne result
 none_in IsOne (Ok end) none = tt
 none_in IsOne (Err (stops.Refused r)) none = absurd none
 none_in IsOne (Err (stops.StoreFailed line)) none = tt

@@ -31,7 +31,7 @@ use Rattle.som_cmd_build.specs.PutSteps.{EndHasCause, Placed, PlacedTold, Puts, 
 -- ---- what the texts are compiled to
 
 -- what is wrong with them is refused
-refused_as : (Told : Result (List ℕ) TextFault → Type 0) (fault : CompileFault) (stop : CommandStop) → Says {A = List ℕ} Told (Err fault) → Refuses fault stop → Compiled Told (Err stop)
+pub refused_as : (Told : Result (List ℕ) TextFault → Type 0) (fault : CompileFault) (stop : CommandStop) → Says {A = List ℕ} Told (Err fault) → Refuses fault stop → Compiled Told (Err stop)
 refused_as Told (compiling.Text w) (stops.Refused r) told is = (w, told, is)
 refused_as Told (compiling.Text w) (stops.StoreFailed line) told is = absurd is
 refused_as Told (compiling.Text w) stops.NoMemory told is = tt
@@ -58,14 +58,14 @@ quietly compiling.NoMemory stop is = subst IsQuietStop (sym is) tt
 
 module _ {A : Type 0} (Comes : Compiling A) where
   -- it can't be got
-  not_there : (files new : Option Files) (out : List ℕ) (got : Files → Result A Refusal) (stop : CommandStop) → new ≡ files → FollowsTold {A = A} files (Err stop) got → PutsTold Comes files out got (Err stop) new
+  pub not_there : (files new : Option Files) (out : List ℕ) (got : Files → Result A Refusal) (stop : CommandStop) → new ≡ files → FollowsTold {A = A} files (Err stop) got → PutsTold Comes files out got (Err stop) new
   not_there None new out got stop same f = tt
   not_there (Some files) new out got (stops.Refused r) same f = (not_got r f, same)
   not_there (Some files) new out got (stops.StoreFailed line) same f = same
   not_there (Some files) new out got stops.NoMemory same f = same
 
   -- it isn't compiled
-  not_made : (files new : Option Files) (out : List ℕ) (got : Files → Result A Refusal) (x : A) (stop : CommandStop) → new ≡ files → FollowsTold files (Ok x) got → Compiled (Comes x) (Err stop)
+  pub not_made : (files new : Option Files) (out : List ℕ) (got : Files → Result A Refusal) (x : A) (stop : CommandStop) → new ≡ files → FollowsTold files (Ok x) got → Compiled (Comes x) (Err stop)
       → PutsTold Comes files out got (Err stop) new
   not_made None new out got x stop same f g = tt
   not_made (Some files) new out got x (stops.Refused r) same f g =
@@ -82,7 +82,7 @@ module _ {A : Type 0} (Comes : Compiling A) where
   placed files new out got image are bytes (Err (stops.StoreFailed line)) none p = p
   placed files new out got image are bytes (Err stops.NoMemory) none p = p
 
-  made_put : (files before new : Option Files) (out : List ℕ) (got : Files → Result A Refusal) (x : A) (image : List ℕ) (result : Result PutEnd CommandStop) → before ≡ files
+  pub made_put : (files before new : Option Files) (out : List ℕ) (got : Files → Result A Refusal) (x : A) (image : List ℕ) (result : Result PutEnd CommandStop) → before ≡ files
       → FollowsTold files (Ok x) got → Compiled (Comes x) (Ok image) → AreBytes image → RefusesAs (λ r. ⊥) result → PlacedTold before out image result new → PutsTold Comes files out got result new
   made_put None before new out got x image result same f g bytes none p = tt
   made_put (Some files) before new out got x image result same f g bytes none p =
@@ -120,7 +120,7 @@ client_image_put files before new out library names parts image result same f g 
 -- ---- where the store failed
 
 -- in the put, after the gets
-rose_in_put : (is_line : List ℕ → Type 0) (out : List ℕ) (count mid now : ℕ) (result : Result PutEnd CommandStop) → count ≤ mid → EndHasCause (λ line. ⊥) out mid now result → EndHasCause is_line out count now result
+pub rose_in_put : (is_line : List ℕ → Type 0) (out : List ℕ) (count mid now : ℕ) (result : Result PutEnd CommandStop) → count ≤ mid → EndHasCause (λ line. ⊥) out mid now result → EndHasCause is_line out count now result
 rose_in_put is_line out count mid now (Ok ends.Done) le cause = tt
 rose_in_put is_line out count mid now (Ok (ends.Failed put)) le cause = (rose_earlier count mid now le cause.0, cause.1)
 rose_in_put is_line out count mid now (Err (stops.Refused r)) le cause = tt

@@ -1,7 +1,7 @@
 mod BaseLaws
 mod PlacedLaws
-mod CompileLaws
-mod BuildRefusals
+pub mod CompileLaws
+pub mod BuildRefusals
 pub mod PutFiles
 pub mod PutAnswered
 pub mod PutEndLaws

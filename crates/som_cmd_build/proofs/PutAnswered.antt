@@ -23,7 +23,7 @@ use Rattle.som_cmd_build.specs.LibraryAnswer.{IsLibraryAnswer}
 use Rattle.som_cmd_build.specs.ClientAnswer.{CompilesParts, IsClientAnswer}
 use Rattle.som_cmd_build.proofs.BaseLaws.{base_read}
 
-abbrev Told : Type 0
+abbrev pub Told : Type 0
 Told = Result (List ℕ) TextFault
 
 module _ {A : Type 0} (Comes : Compiling A) (files : Files) (out : List ℕ) (got : Result A Refusal) where
@@ -41,7 +41,7 @@ module _ {A : Type 0} (Comes : Compiling A) (files : Files) (out : List ℕ) (go
   some_from (Ok x) is some = let t = some x refl in (compiling_ending t.0, by_compiling x is t.0 t.1)
   some_from (Err r) is some = (refusing files r, not_got r is)
 
-  some_put : ((x : A) → got ≡ Ok x → (told : Told) × Comes x told) → (e : Ending) × IsPutAnswer Comes files out got e
+  pub some_put : ((x : A) → got ≡ Ok x → (told : Told) × Comes x told) → (e : Ending) × IsPutAnswer Comes files out got e
   some_put some = some_from got refl some
 
   -- and one at most, where it is compiled to one thing
@@ -64,7 +64,7 @@ module _ {A : Type 0} (Comes : Compiling A) (files : Files) (out : List ℕ) (go
     same_told : (x y : A) (a b : Told) → got ≡ Ok x → got ≡ Ok y → Comes x a → Comes y b → compiling_ending a ≡ compiling_ending b
     same_told x y a b e f c d = ap compiling_ending (one y a b (subst (λ (z : A). Comes z a) (same_got x y e f) c) d)
 
-    one_put : (a b : Ending) → IsPutAnswer Comes files out got a → IsPutAnswer Comes files out got b → a ≡ b
+    pub one_put : (a b : Ending) → IsPutAnswer Comes files out got a → IsPutAnswer Comes files out got b → a ≡ b
     one_put a b (not_got r e) (not_got s f) = ap (refusing files) (same_refusal r s e f)
     one_put a b (not_got r e) (not_compiled x w f c) = got_or_not x r f e
     one_put a b (not_got r e) (puts image (x, f, c)) = got_or_not x r f e

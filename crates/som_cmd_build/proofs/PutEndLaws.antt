@@ -152,7 +152,7 @@ bytes_put IsImage files out count now status new_files old new image zero put (p
 module _ (IsAnswer : Ending → Type 0) (one : (a b : Ending) → IsAnswer a → IsAnswer b → a ≡ b) (status : ℕ) (new_files : Option Files) (old new : Option (List ℕ)) (e : EndsAs IsAnswer status new_files old new) (files : Files)
     (out : List ℕ) (image_is : Option (List ℕ)) (image : List ℕ) (spelled : image_is ≡ Some image) (is : IsAnswer (putting files out image)) (IsImage : List ℕ → Type 0) (count now : ℕ)
     (left : LeavesFiles IsImage files out count now status new_files old new) where
-  put_as : PutsImage image_is files out status new_files old new
+  pub put_as : PutsImage image_is files out status new_files old new
   put_as = record {
     image = image;
     spelled = spelled;

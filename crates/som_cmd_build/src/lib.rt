@@ -7,3 +7,4 @@ mod putting;
 
 pub use client::build_client;
 pub use library::build_library;
+pub use putting::{FailedPut, PutEnd, put, tell_put};

@@ -47,6 +47,7 @@ pub fn fetch_all<S: Store>(
     ensures files { S.files store.new ≡ S.files store.old }
     ensures later { S.faults store.old ≤ S.faults store.new }
     ensures cause { HasCause (FailsGetting (S.files store.old) names.now) (S.faults store.old) (S.faults store.new) result }
+    ensures calm { S.calm store.old → S.calm store.new }
     ensures quiet { S.calm store.old → IsQuiet result }
     ensures refuses { RefusesAs (IsAbsentOf names.now) result }
 {

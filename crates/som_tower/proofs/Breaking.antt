@@ -17,7 +17,7 @@ use Rattle.som_tower.specs.Towers.{TellsTower, plain, tower_break}
 abbrev pub breaks_at : List Interface → Level → Option (ℕ × CompatBreach)
 breaks_at is l = first_level_break (levels_below l.sizes l.client l.program.base) is
 
-or_none : {A : Type 0} (a : Option A) → or_else a None ≡ a
+pub or_none : {A : Type 0} (a : Option A) → or_else a None ≡ a
 or_none None = refl
 or_none (Some x) = refl
 

@@ -1,3 +1,4 @@
 pub mod Breaking
 pub mod Climbing
 pub mod Reached
+pub mod Unbroken

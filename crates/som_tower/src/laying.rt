@@ -1,6 +1,7 @@
 //! A tower laid out: its levels are built from the library up, the client is put on top, and a kernel is made of all.
 
 ghost use Rattle.som_class_kernel.specs.Linked.{IsMadeIn};
+ghost use Rattle.som_compat_levels.specs.Conditions.{AreLoadableLevels};
 ghost use Rattle.som_classmgr.specs.Reached.{IsMadeBy};
 ghost use Rattle.som_level_programs.specs.ByLevels.{levels_below as levels_of, main_by_level as main_of};
 ghost use Rattle.som_level_laws.specs.Levels.{first_level_break};
@@ -14,7 +15,7 @@ use crate::building::{Built, compare, ground, stand};
 use som_classmgr::{Kernel, Linked, Unlinked};
 use som_compat_levels::LevelFault;
 use som_levels::{LevelModules, main_by_level, note_own};
-use som_model::{List, Release};
+use som_model::{Interface, List, Release};
 use som_towerimage::Level;
 use std::alloc::Global;
 
@@ -37,6 +38,27 @@ pub fn lay_tower(
 {
     let built = build(alloc, base, uppers)?;
     lay_client(kernel, alloc, base, uppers, client, built)
+}
+
+/// The interfaces of a library and of the libraries above it, the lowest first, where each of these keeps what those above it were compiled
+/// against; else the first breach is answered, with the level of its class.
+pub fn standing_levels(
+    alloc: Global,
+    base: &Release,
+    uppers: &List<Level>,
+) -> Result<List<Interface>, LevelFault>
+    requires { AreLibraries base.now uppers.now }
+    ensures tells { TellsTower (tower_break (interface_of base.now ∷ []) (map plain uppers.now)) result }
+    ensures interfaces { IfOk result (λ is. is ≡ interfaces_of base.now uppers.now) }
+    ensures loadable { IfOk result AreLoadableLevels }
+{
+    let built = build(alloc, base, uppers)?;
+    let Built {
+        interfaces,
+        classes,
+    } = built;
+    drop(classes);
+    Ok(interfaces)
 }
 
 // The levels of a tower, if each is kept by those below it.

@@ -2,7 +2,9 @@
 #![tactic(auto)]
 
 mod building;
+mod laws;
 mod laying;
 mod library;
 
-pub use laying::lay_tower;
+pub use laws::standing_law;
+pub use laying::{lay_tower, standing_levels};

@@ -1,0 +1,11 @@
+pub mod FlatFaces
+pub mod ReadLevels
+pub mod LevelNumbers
+pub mod SoundBases
+pub mod BaseSteps
+pub mod TowerSteps
+pub mod TowerRefusals
+pub mod MakeLaws
+pub mod TowerAnswered
+pub mod StoredTowers
+pub mod TowerEndLaws

@@ -1,0 +1,6 @@
+pub mod TowerParts
+pub mod Bases
+pub mod TowerMakeAnswer
+pub mod Statuses
+pub mod Cause
+pub mod TowerMakeEnds
