@@ -142,8 +142,8 @@ fn all_keep<'a>(
     Ok(())
 }
 
-// The number of the level whose classes have the module.
-fn level_of(home: Module) -> u8
+/// The number of the level whose classes have the module.
+pub fn level_of(home: Module) -> u8
     ensures { result ≡ level_in home }
 {
     match home {

@@ -17,4 +17,7 @@ mod tables;
 mod versions;
 
 pub use breach::{LevelBreach, LevelFault};
-pub use levels::compatible_levels;
+pub use classes::{PlacedClass, all_classes};
+pub use finding::sorted_places;
+pub use levels::{compatible_levels, level_of};
+pub use owners::{Slot, entries_at, entry_owners, slot_at};

@@ -39,8 +39,12 @@ fn rekey_sig<C: NewModules>(alloc: Global, change: &C, sig: &Sig) -> Result<Sig,
     })
 }
 
-// An entry under new keys.
-fn rekey_entry<C: NewModules>(alloc: Global, change: &C, entry: &Entry) -> Result<Entry, NoMemory>
+/// An entry under new keys.
+pub fn rekey_entry<C: NewModules>(
+    alloc: Global,
+    change: &C,
+    entry: &Entry,
+) -> Result<Entry, NoMemory>
     ensures { IfOk result (λ e. e ≡ new_entry (C.change change.now) entry.now) }
 {
     match entry {
@@ -71,8 +75,8 @@ fn rekey_entries<C: NewModules>(
     Ok(copies)
 }
 
-// The metaclass, if one is declared.
-fn rekey_metaclass<C: NewModules>(
+/// The metaclass under new keys, if one is declared.
+pub fn rekey_metaclass<C: NewModules>(
     alloc: Global,
     change: &C,
     metaclass: &Option<ClassKey>,

@@ -32,7 +32,7 @@ pub fn rekey_key<C: NewModules>(
 
 /// The new keys, in order.
 #[cycle(rekey_key)]
-pub(crate) fn rekey_keys<C: NewModules>(
+pub fn rekey_keys<C: NewModules>(
     alloc: Global,
     change: &C,
     keys: &List<ClassKey>,

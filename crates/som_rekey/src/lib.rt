@@ -6,7 +6,7 @@ mod keys;
 mod modules;
 mod syntax;
 
-pub use classes::{rekey_class, rekey_face};
-pub use keys::{rekey_key, rekey_method, rekey_type};
+pub use classes::{rekey_class, rekey_entry, rekey_face, rekey_metaclass};
+pub use keys::{rekey_key, rekey_keys, rekey_method, rekey_type};
 pub use modules::NewModules;
 pub use syntax::{rekey_block, rekey_expr};

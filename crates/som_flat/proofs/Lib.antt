@@ -1,0 +1,4 @@
+pub mod Lists
+pub mod Flattened
+pub mod Naming
+pub mod Leveled

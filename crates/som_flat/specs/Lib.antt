@@ -1,0 +1,3 @@
+pub mod FlatFaces
+pub mod Breaches
+pub mod Told
