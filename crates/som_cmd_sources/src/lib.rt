@@ -6,5 +6,5 @@ mod text_refusals;
 mod texts;
 
 pub use client_parts::{ClientParts, fetch_parts};
-pub use text_refusals::{refuse_texts, stop_of};
+pub use text_refusals::{refuse_limit, refuse_texts, stop_of};
 pub use texts::fetch_texts;

@@ -18,7 +18,7 @@ use Rattle.som_tower.specs.Towers.{interfaces_of, plain, tower_break}
 use Rattle.som_cmd_steps.specs.declared.stop.Refusal.{Refusal}
 use Rattle.som_cmd_steps.specs.declared.stop.CommandStop.{CommandStop}
 use Rattle.som_cmd_steps.specs.declared.stop.CommandStop.TheVariants as stops
-use Rattle.som_cmd_steps.specs.Lines.{broken, not_kept}
+use Rattle.som_cmd_steps.specs.Lines.{broken}
 use Rattle.som_cmd_steps.specs.Steps.{Follows, Stops}
 use Rattle.som_cmd_steps.proofs.ImageLaws.{stops_first}
 use Rattle.som_cmd_sources.specs.Texts.{too_many}
@@ -38,13 +38,11 @@ stands names below is none same =
     ap (λ (o : Option (ℕ × CompatBreach)). level_kept_or names o >>= λ kept. Ok (interfaces_of below.base below.uppers)) none ∙ ap (λ (x : List Interface). Ok x) (sym same)
 
 -- what one of them doesn't keep is told under its name
-pub not_standing : (names : List (List ℕ)) (below : LevelsBelow) (b : LevelBreach) (name : List ℕ) (r : Refusal) → ((found : ℕ × CompatBreach) × (breach_of below ≡ Some found) × IsTold found b) → name ≡ name_at names b.level
-    → ((found : ℕ × CompatBreach) → IsTold found b → r ≡ not_kept name found.1) → Follows {A = List Interface} (Err (stops.Refused r)) (standing_in names below)
-not_standing names below b name r (found, is, told) at line =
+pub not_standing : (names : List (List ℕ)) (below : LevelsBelow) (b : LevelBreach) (r : Refusal) → ((found : ℕ × CompatBreach) × (breach_of below ≡ Some found) × IsTold found b)
+    → ((found : ℕ × CompatBreach) → IsTold found b → level_kept_or names (Some found) ≡ Err r) → Follows {A = List Interface} (Err (stops.Refused r)) (standing_in names below)
+not_standing names below b r (found, is, told) line =
     ap (λ (o : Option (ℕ × CompatBreach)). level_kept_or names o >>= λ kept. Ok (interfaces_of below.base below.uppers)) is
-    ∙ ap (λ (n : ℕ). Err (not_kept (name_at names n) found.1)) (sym told.level)
-    ∙ ap (λ (n : List ℕ). Err (not_kept n found.1)) (sym at)
-    ∙ ap (λ (x : Refusal). Err x) (sym (line found told))
+    ∙ ap (λ (x : Result (Unit {0}) Refusal). x >>= λ kept. Ok (interfaces_of below.base below.uppers)) (line found told)
 
 -- ---- the flat interface
 

@@ -29,12 +29,16 @@ module _ (files : Option Files) (out : List ℕ) (below names : List (List ℕ))
   pub parts_refused : (new : Option Files) (stop : CommandStop) → new ≡ files → FollowsTold {A = TowerParts} files (Err stop) (tower_in below names) → PutsTold Comes files out (tower_in below names) (Err stop) new
   parts_refused new stop same f = not_there Comes files new out (tower_in below names) stop same f
 
-  pub image_refused : (new : Option Files) (parts : TowerParts) (stop : CommandStop) → new ≡ files → FollowsTold files (Ok parts) (tower_in below names) → Compiled (Comes parts) (Err stop) → PutsTold Comes files out (tower_in below names) (Err stop) new
-  image_refused new parts stop same f g = not_made Comes files new out (tower_in below names) parts stop same f g
+  made_as : (client : Bool) (parts : TowerParts) (result : Result (List ℕ) CommandStop) → client ≡ has_main names → Compiled (CompilesTower client parts) result → Compiled (Comes parts) result
+  made_as client parts result is made = subst (λ (b : Bool). Compiled (CompilesTower b parts) result) is made
 
-  pub image_put : (before new : Option Files) (parts : TowerParts) (image : List ℕ) (result : Result PutEnd CommandStop) → before ≡ files → FollowsTold files (Ok parts) (tower_in below names) → Compiled (Comes parts) (Ok image) → AreBytes image
-      → RefusesAs (λ r. ⊥) result → PlacedTold before out image result new → PutsTold Comes files out (tower_in below names) result new
-  image_put before new parts image result same f g bytes none p = made_put Comes files before new out (tower_in below names) parts image result same f g bytes none p
+  pub image_refused : (new : Option Files) (parts : TowerParts) (client : Bool) (stop : CommandStop) → new ≡ files → FollowsTold files (Ok parts) (tower_in below names) → client ≡ has_main names → Compiled (CompilesTower client parts) (Err stop)
+      → PutsTold Comes files out (tower_in below names) (Err stop) new
+  image_refused new parts client stop same f is g = not_made Comes files new out (tower_in below names) parts stop same f (made_as client parts (Err stop) is g)
+
+  pub image_put : (before new : Option Files) (parts : TowerParts) (client : Bool) (image : List ℕ) (result : Result PutEnd CommandStop) → before ≡ files → FollowsTold files (Ok parts) (tower_in below names) → client ≡ has_main names
+      → Compiled (CompilesTower client parts) (Ok image) → AreBytes image → RefusesAs (λ r. ⊥) result → PlacedTold before out image result new → PutsTold Comes files out (tower_in below names) result new
+  image_put before new parts client image result same f is g bytes none p = made_put Comes files before new out (tower_in below names) parts image result same f (made_as client parts (Ok image) is g) bytes none p
 
   -- ---- where the store failed
 

@@ -1,5 +1,5 @@
 -- What is known of levels whose images were read and looked at.
-use Rattle.std.proofs.Common.{◌≡◌, ℕ, zero, suc, ◌+◌, ◌≤◌, ◌==◌, Bool, true, false, if◌then◌else◌, List, [], ◌∷◌, length, drop, slice_get, Option, Some, None, Result, Ok, Err, refl, sym, ap, subst, ◌∙◌, arith}
+use Rattle.std.proofs.Common.{◌≡◌, ℕ, zero, suc, ◌+◌, ◌≤◌, ◌==◌, Bool, true, false, not, if◌then◌else◌, List, [], ◌∷◌, length, drop, slice_get, Option, Some, None, Result, Ok, Err, refl, sym, ap, subst, ◌∙◌, arith}
 use Rattle.std.proofs.lemmas.Bool.{eqb-true}
 use Rattle.som_model.specs.declared.program.Release.{Release}
 use Rattle.som_model.specs.Bytes.{AreBytes}
@@ -23,7 +23,7 @@ use Rattle.som_cmd_steps.specs.EachImage.{each_passes}
 use Rattle.som_cmd_steps.specs.ImageSteps.{are_bytes, kept_or, library_in, program_rules_kept, read_if, read_or, release_in, rules_kept}
 use Rattle.som_cmd_steps.proofs.ByteLaws.{bytes_below, library_bytes}
 use Rattle.som_cmd_levels.specs.declared.levels.LevelsBelow.{LevelsBelow}
-use Rattle.som_cmd_levels.specs.LevelImages.{in_place, level_in, level_read, of_kind, placed_in}
+use Rattle.som_cmd_levels.specs.LevelImages.{in_place, is_kind, level_in, level_read, of_kind, placed_in}
 use Rattle.som_cmd_levels.specs.Levels.{AllConform, AreLevelsOf, AreUppers, IsLevelAt, LevelsConform, level_rules_kept, levels_in, levels_rules_kept, uppers_in}
 
 -- ---- one image
@@ -51,13 +51,16 @@ kind_by : (b : Bool) (l m : Level) → (if b then Ok l else Err (faults.Tag 6)) 
 kind_by true l m e = (refl, same_ok l m e)
 kind_by false l m e = absurd (let z = e in cc)
 
-other_by : (b : Bool) (l m : Level) → (if b then Err (faults.Tag 6) else Ok l) ≡ Ok m → (b ≡ false) × (l ≡ m)
-other_by true l m e = absurd (let z = e in cc)
-other_by false l m e = (refl, same_ok l m e)
+not_true : (b : Bool) → not b ≡ true → b ≡ false
+not_true true e = cc
+not_true false e = refl
+
+kind_is : (client : Bool) (l : Level) → is_kind client l ≡ true → l.client ≡ client
+kind_is true l e = e
+kind_is false l e = not_true l.client e
 
 kind_known : (client : Bool) (l m : Level) → of_kind client l ≡ Ok m → (l.client ≡ client) × (l ≡ m)
-kind_known true l m e = kind_by l.client l m e
-kind_known false l m e = other_by l.client l m e
+kind_known client l m e = let k = kind_by (is_kind client l) l m e in (kind_is client l k.0, k.1)
 
 place_by : (b client : Bool) (l m : Level) → (if b then of_kind client l else Err (faults.Number 5)) ≡ Ok m → (b ≡ true) × (of_kind client l ≡ Ok m)
 place_by true client l m e = (refl, e)
@@ -96,11 +99,11 @@ one_upper below l ls at more (suc i) x e = subst (λ (n : ℕ). IsLevelAt n fals
 
 uppers_known : (below : ℕ) (names images : List (List ℕ)) (ls : List Level) → length images ≡ length names → uppers_in below names images ≡ Ok ls → Uppers below (length names) ls
 uppers_known below [] images ls same e = subst (Uppers below 0) (same_ok [] ls e) (no_uppers below)
-uppers_known below (n ∷ ns) [] ls same e = absurd (let z = same in cc)
+uppers_known below (n ∷ ns) [] ls same e = absurd (omega (arith, same))
 uppers_known below (n ∷ ns) (b ∷ bs) ls same e =
     let w = went (level_read below false n b) (λ (l : Level). uppers_in (suc below) ns bs >>= λ more. Ok (l ∷ more)) ls e in
     let v = went (uppers_in (suc below) ns bs) (λ (more : List Level). Ok (w.value ∷ more)) ls w.further in
-    let more = uppers_known (suc below) ns bs v.value (let z = same in cc) v.first in
+    let more = uppers_known (suc below) ns bs v.value (omega (arith, same)) v.first in
     subst (Uppers below (suc (length ns))) (same_ok (w.value ∷ v.value) ls v.further)
     (record { at = one_upper below w.value v.value (level_at_place below false n b w.value w.first) more.at; many = ap suc more.many })
 
@@ -108,9 +111,9 @@ uppers_known below (n ∷ ns) (b ∷ bs) ls same e =
 
 drop_long : {A : Type 0} (xs ys : List A) → length xs ≡ length ys → length (drop 1 xs) ≡ length (drop 1 ys)
 drop_long [] [] e = refl
-drop_long [] (y ∷ ys) e = absurd (let z = e in cc)
-drop_long (x ∷ xs) [] e = absurd (let z = e in cc)
-drop_long (x ∷ xs) (y ∷ ys) e = let z = e in cc
+drop_long [] (y ∷ ys) e = absurd (omega (arith, e))
+drop_long (x ∷ xs) [] e = absurd (omega (arith, e))
+drop_long (x ∷ xs) (y ∷ ys) e = omega (arith, e)
 
 one_dropped : {A : Type 0} (xs : List A) → 1 ≤ length xs → length (drop 1 xs) + 1 ≡ length xs
 one_dropped [] le = absurd (omega (arith, le))
@@ -138,7 +141,7 @@ levels_known names images below same some e =
 
 uppers_conform : (names : List (List ℕ)) (ls : List Level) (u : Unit {0}) → length ls ≡ length names → each_passes level_rules_kept names ls ≡ Ok u → AllConform ls
 uppers_conform [] [] u same e i l is = absurd (let z = is in cc)
-uppers_conform [] (x ∷ ls) u same e i l is = absurd (let z = same in cc)
+uppers_conform [] (x ∷ ls) u same e i l is = absurd (omega (arith, same))
 uppers_conform (n ∷ ns) [] u same e i l is = absurd (let z = is in cc)
 uppers_conform (n ∷ ns) (x ∷ ls) u same e zero l is =
     let w = went (level_rules_kept n x) (λ (passed : Unit {0}). each_passes level_rules_kept ns ls) u e in
@@ -146,7 +149,7 @@ uppers_conform (n ∷ ns) (x ∷ ls) u same e zero l is =
     subst (λ (y : Level). ProgramOk y.program) at (program_conforms x.program (kept_ok n (program_breach x.program) w.value w.first))
 uppers_conform (n ∷ ns) (x ∷ ls) u same e (suc i) l is =
     let w = went (level_rules_kept n x) (λ (passed : Unit {0}). each_passes level_rules_kept ns ls) u e in
-    uppers_conform ns ls u (let z = same in cc) w.further i l is
+    uppers_conform ns ls u (omega (arith, same)) w.further i l is
 
 pub rules_known : (names : List (List ℕ)) (below : LevelsBelow) (u : Unit {0}) → length below.uppers + 1 ≡ length names → levels_rules_kept names below ≡ Ok u → LevelsConform below
 rules_known names below u many e =

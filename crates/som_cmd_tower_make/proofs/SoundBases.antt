@@ -1,5 +1,5 @@
 -- The flat interface of levels that were read, looked at and compared may be compiled against.
-use Rattle.std.proofs.Common.{◌≡◌, ℕ, zero, suc, ◌+◌, ◌≤◌, Bool, true, false, if◌then◌else◌, nat_le, List, [], ◌∷◌, codes, length, map, slice_get, sum, Option, Some, None, Result, Ok, Err, inl, inr, refl, sym, ap, subst, ◌∙◌, arith}
+use Rattle.std.proofs.Common.{◌≡◌, ℕ, zero, suc, ◌+◌, ◌<◌, ◌≤◌, Bool, true, false, if◌then◌else◌, nat_le, List, [], ◌∷◌, codes, length, map, slice_get, sum, Option, Some, None, Result, Ok, Err, inl, inr, refl, sym, ap, subst, ◌∙◌, arith}
 use Rattle.std.proofs.lemmas.Bool.{leb-true}
 use Rattle.std.proofs.lemmas.List.{length-map}
 use Rattle.std.specs.Option.{option_map}
@@ -24,6 +24,8 @@ use Rattle.som_flat_laws.specs.Flat.{flat_interface, sizes_of}
 use Rattle.som_flat_laws.proofs.Placing.{flat_count}
 use Rattle.som_flat.specs.Breaches.{flat_breach}
 use Rattle.som_flat.proofs.Leveled.{breach_told}
+use Rattle.som_compat_levels.specs.declared.breach.LevelBreach.{LevelBreach}
+use Rattle.som_compat_levels.specs.Told.{IsTold}
 use Rattle.som_link_limits.proofs.Classes.{program_counts, release_counts}
 use Rattle.som_towerimage.specs.declared.level.Level.{Level}
 use Rattle.som_tower.specs.Towers.{AreLibraries, interfaces_of, plain, tower_break}
@@ -36,6 +38,7 @@ use Rattle.som_cmd_levels.specs.Levels.{AreLevelsOf, LevelsConform, levels_in, l
 use Rattle.som_cmd_tower_make.specs.declared.base.TowerBase.{TowerBase}
 use Rattle.som_cmd_tower_make.specs.Bases.{IsSoundBase}
 use Rattle.som_cmd_tower_make.specs.TowerParts.{base_in, base_of, classes_kept, flat_in, flat_kept_or, levels_standing, standing_in}
+use Rattle.som_cmd_tower_make.proofs.LevelNumbers.{flat_level, tower_level}
 use Rattle.som_cmd_tower_make.proofs.FlatFaces.{flat_roomy, tower_roomy}
 use Rattle.som_cmd_tower_make.proofs.ReadLevels.{levels_known, rules_known}
 
@@ -92,6 +95,25 @@ many_levels base uppers =
     let a : length (map own_interface (map plain uppers)) ≡ length (map plain uppers) = length-map (map plain uppers) own_interface in
     let b : length (map plain uppers) ≡ length uppers = length-map uppers plain in
     omega (arith, a, b)
+
+pub standing_many : (names : List (List ℕ)) (below : LevelsBelow) (is : List Interface) → AreLevelsOf names below → is ≡ interfaces_of below.base below.uppers → length is ≡ length names
+standing_many names below is levels same =
+    let a : length is ≡ length (interfaces_of below.base below.uppers) = ap length same in
+    let b = many_levels below.base below.uppers in
+    let c = levels.many in
+    omega (arith, a, b, c)
+
+-- what one of them doesn't keep has the name of one, and so has what breaks a rule
+pub level_named : (names : List (List ℕ)) (below : LevelsBelow) (b : LevelBreach) → AreLevelsOf names below → LevelsConform below → length names ≤ 8
+    → ((found : ℕ × CompatBreach) × (tower_break (interface_of below.base ∷ []) (map plain below.uppers) ≡ Some found) × IsTold found b) → b.level < length names
+level_named names below b levels conform few (found, is, told) =
+    let low = tower_level below.base below.uppers found (libraries_of names below levels conform few) is in
+    let at = told.level in
+    let many = levels.many in
+    omega (arith, low, at, many)
+
+pub flat_named : (names : List (List ℕ)) (is : List Interface) (level : ℕ) (b : RuleBreach) → length is ≡ length names → flat_breach is ≡ Some (level, b) → level < length names
+flat_named names is level b many e = let low = flat_level is level b e in omega (arith, low, many)
 
 -- ---- the base
 

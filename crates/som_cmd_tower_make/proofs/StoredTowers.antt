@@ -1,5 +1,5 @@
 -- Libraries of a tower whose images a store holds are got, read and kept.
-use Rattle.std.proofs.Common.{◌≡◌, ℕ, zero, suc, ◌+◌, ◌≤◌, ◌==◌, Bool, true, false, if◌then◌else◌, nat_le, List, [], ◌∷◌, ◌++◌, codes, length, map, slice_get, Option, Some, None, Result, Ok, Err, refl, sym, ap, subst, ◌∙◌, arith}
+use Rattle.std.proofs.Common.{◌≡◌, ℕ, zero, suc, ◌+◌, ◌≤◌, ◌==◌, Bool, true, false, not, if◌then◌else◌, nat_le, List, [], ◌∷◌, ◌++◌, codes, length, map, slice_get, Option, Some, None, Result, Ok, Err, refl, sym, ap, subst, ◌∙◌, arith}
 use Rattle.std.proofs.lemmas.Grind.{common_steps}
 use Rattle.std.specs.FinMap.{get}
 use Rattle.som_model.specs.declared.limits.TheConstants.{MAX_LIBRARY_CLASSES}
@@ -53,7 +53,7 @@ placed : (below : ℕ) (l : Level) → IsLibraryAbove below l → in_place below
 placed below l a =
     ap (λ (n : ℕ). if n == below then of_kind false l else Err (faults.Number 5)) a.levels
     ∙ ap (λ (b : Bool). if b then of_kind false l else Err (faults.Number 5)) (same_number below)
-    ∙ ap (λ (b : Bool). if b then Err (faults.Tag 6) else Ok l) a.library
+    ∙ ap (λ (b : Bool). if not b then Ok l else Err (faults.Tag 6)) a.library
 
 read_there : (below : ℕ) (files : Files) (name : List ℕ) (l : Level) (h : HoldsLevel files name l) → IsLibraryAbove below l → level_read below false name h.bytes ≡ Ok l
 read_there below files name l h a =
@@ -176,9 +176,10 @@ module _ (files : Files) (first : List ℕ) (others : List (List ℕ)) (base : R
   stacked_by js [] ready on = tt
   stacked_by js (l ∷ ls) ready on =
       let u = ready 0 l refl in
-      let long = long_more js (own_interface (plain l)) in
-      ((stands l u.sound js (u.levels ∙ plus_none (length js)) on.0, u.library),
-      stacked_by (js ++ own_interface (plain l) ∷ []) ls (λ i x at. subst (λ (k : ℕ). IsUpper k x) (omega (arith, long)) (ready (suc i) x at)) on.1)
+      let long = long_more js (own_interface (plain l)) in (
+        (stands l u.sound js (u.levels ∙ plus_none (length js)) on.0, u.library),
+        stacked_by (js ++ own_interface (plain l) ∷ []) ls (λ i x at. subst (λ (k : ℕ). IsUpper k x) (omega (arith, long)) (ready (suc i) x at)) on.1,
+      )
 
   nothing_broken : tower_break (interface_of base ∷ []) (map plain uppers) ≡ None
   nothing_broken =

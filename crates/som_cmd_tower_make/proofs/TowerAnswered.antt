@@ -5,7 +5,7 @@ use Rattle.som_model.specs.Lists.{some}
 use Rattle.som_model.specs.Steps.{◌>>=◌}
 use Rattle.som_model.proofs.StepLaws.{same_ok, went}
 use Rattle.som_sources.specs.declared.source.Source.{Source}
-use Rattle.som_sources.specs.Sources.{is_main, mains_in}
+use Rattle.som_sources.specs.Sources.{is_main, mains_in, names_of}
 use Rattle.som_level_compile.specs.CompilingLevels.{AreSizesBelow}
 use Rattle.som_level_compile.proofs.LevelLaws.{one_level, some_level}
 use Rattle.som_towerimage.specs.Spelling.{most_below}
@@ -44,7 +44,7 @@ mains_counted (n ∷ ns) few = mains_by (is_main n) (mains_in ns) (has_main ns) 
 -- ---- what the parts of a level came from
 
 images_long : (names : List (List ℕ)) (files : Files) (images : List (List ℕ)) → images_in names files ≡ Ok images → length images ≡ length names
-images_long [] files images e = ap length (same_ok images [] (let z = e in cc))
+images_long [] files images e = sym (ap length (same_ok [] images e))
 images_long (n ∷ ns) files images e =
     let w = went (file_of n files) (λ (b : List ℕ). images_in ns files >>= λ bs. Ok (b ∷ bs)) images e in
     let v = went (images_in ns files) (λ (bs : List (List ℕ)). Ok (w.value ∷ bs)) images w.further in
@@ -78,6 +78,13 @@ sizes_below client count b some few sound = record {
   few = subst (λ (n : ℕ). n ≤ most_below client) (sym sound.levels) few;
   classes = sound.classes;
 }
+
+-- so it is of what the code gets
+pub parts_sizes : (client : Bool) (names : List (List ℕ)) (count : ℕ) (b : TowerBase) → client ≡ has_main names → 1 ≤ count → count ≤ most_below (has_main names) → IsSoundBase count b → AreSizesBelow b.interface b.sizes client
+parts_sizes client names count b is some few sound = subst (AreSizesBelow b.interface b.sizes) (sym is) (sizes_below (has_main names) count b some few sound)
+
+pub parts_mains : (client : Bool) (names : List (List ℕ)) (ss : List Source) → client ≡ has_main names → mains_in names ≤ 1 → names_of ss ≡ names → mains_in (names_of ss) ≡ (if client then 1 else 0)
+parts_mains client names ss is mains named = subst (λ (b : Bool). mains_in (names_of ss) ≡ count_of b) (sym is) (mains_named names ss (count_of (has_main names)) named (mains_counted names mains))
 
 pub tower_answer : (files : Files) (out : List ℕ) (below names : List (List ℕ)) → 1 ≤ length below → length below ≤ most_below (has_main names) → mains_in names ≤ 1 → (e : Ending) × IsTowerMakeAnswer out below names files e
 tower_answer files out below names some few mains =

@@ -4,21 +4,18 @@ ghost use Rattle.som_cmd_levels.specs.Levels.{AreLevelsOf, LevelsConform};
 ghost use Rattle.som_cmd_steps.specs.Cause.{IsQuiet};
 ghost use Rattle.som_cmd_steps.specs.Steps.{Follows};
 ghost use Rattle.som_cmd_tower_make.specs.TowerParts.{base_in, classes_kept, flat_in, flat_kept_or, standing_in};
-ghost use Rattle.som_cmd_steps.specs.Lines.{not_kept};
 ghost use Rattle.som_compat_levels.specs.Conditions.{AreLoadableLevels};
-ghost use Rattle.som_compat_levels.specs.Told.{IsTold};
 ghost use Rattle.som_flat.specs.Breaches.{flat_breach};
 ghost use Rattle.som_flat_laws.specs.Flat.{flat_interface as flat_of};
-ghost use Rattle.som_model.specs.Compatible.{CompatBreach};
 ghost use Rattle.som_order.specs.Names.{name_at};
-ghost use Rattle.std.specs.Prelude.{IfOk, length, ℕ, ◌<◌, ◌≡◌, ◌≤◌};
+ghost use Rattle.std.specs.Prelude.{IfOk, length, ◌<◌, ◌≡◌, ◌≤◌};
 
-use som_cmd_levels::{LevelsBelow, level_name, look_at_levels, read_levels, refuse_level_breach};
+use som_cmd_levels::{LevelsBelow, look_at_levels, read_levels, refuse_level};
 use som_cmd_sources::refuse_limit;
-use som_cmd_steps::{CommandStop, Refusal, refuse_broken};
-use som_compat_levels::{LevelBreach, LevelFault};
+use som_cmd_steps::{CommandStop, refuse_broken};
+use som_compat_levels::LevelFault;
 use som_flat::{FlatFault, flat_interface, flat_rules, sizes_of};
-use som_model::{Interface, List, MAX_LIBRARY_CLASSES, NoMemory, Text};
+use som_model::{Interface, List, MAX_LIBRARY_CLASSES, Text};
 use som_tower::standing_levels;
 use std::alloc::Global;
 
@@ -29,15 +26,8 @@ pub struct TowerBase {
     pub sizes: List<u16>,
 }
 
-// The refusal that tells what a level doesn't keep, under its name.
-fn refuse_level(alloc: Global, names: &[Text], breach: &LevelBreach) -> Result<Refusal, NoMemory>
-    requires { breach.now.level < length names.now }
-    ensures { (found : ℕ × CompatBreach) → IsTold found breach.now → IfOk result (λ r. r ≡ not_kept (name_at names.now breach.now.level) found.1) }
-{
-    refuse_level_breach(alloc, level_name(names, breach), breach)
-}
-
 // The interfaces of libraries, where each keeps what those above it were compiled against.
+#[tactic(auto, using(crate::proofs::BaseSteps::stands, crate::proofs::BaseSteps::not_standing, crate::proofs::SoundBases::libraries_of, crate::proofs::SoundBases::standing_many, crate::proofs::SoundBases::level_named))]
 fn standing(
     alloc: Global,
     names: &[Text],
@@ -69,6 +59,7 @@ fn name_of(names: &[Text], level: u8) -> &Text
 }
 
 // Goes on where the flat interface breaks no rule; else the refusal tells the first that it breaks, under the name of the level of the class.
+#[tactic(auto, using(crate::proofs::BaseSteps::flat_kept, crate::proofs::BaseSteps::flat_broken, crate::proofs::SoundBases::flat_named))]
 fn look_at_flat(
     alloc: Global,
     names: &[Text],

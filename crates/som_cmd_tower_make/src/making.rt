@@ -68,7 +68,7 @@ fn image_of(alloc: Global, parts: TowerParts, client: bool) -> Result<List<u8>, 
 
 // Compiles the texts under some names against the libraries under others, the lowest first, and puts the tower image of the level that they
 // stand for under a third: a client where one of the texts is a main, and else a library.
-#[tactic(auto, using(crate::proofs::MakeLaws::parts_refused, crate::proofs::MakeLaws::image_refused, crate::proofs::MakeLaws::image_put, crate::proofs::MakeLaws::image_fails, crate::proofs::MakeLaws::put_fails, crate::proofs::TowerRefusals::image_refused_in, crate::proofs::TowerRefusals::put_refused_in))]
+#[tactic(auto, using(crate::proofs::MakeLaws::parts_refused, crate::proofs::MakeLaws::image_refused, crate::proofs::MakeLaws::image_put, crate::proofs::MakeLaws::image_fails, crate::proofs::MakeLaws::put_fails, crate::proofs::TowerRefusals::image_refused_in, crate::proofs::TowerRefusals::put_refused_in, crate::proofs::TowerAnswered::parts_sizes, crate::proofs::TowerAnswered::parts_mains, crate::proofs::TowerAnswered::few_levels))]
 fn put_level<S: Store>(
     alloc: Global,
     name: &Text,

@@ -27,6 +27,7 @@ pub struct TowerParts {
 }
 
 /// The flat interface of the libraries whose images are under some names, the lowest first, and the texts under others.
+#[tactic(auto, using(crate::proofs::TowerSteps::images_missing, crate::proofs::TowerSteps::texts_missing, crate::proofs::TowerSteps::base_refused, crate::proofs::TowerSteps::all_there, crate::proofs::TowerSteps::images_fail, crate::proofs::TowerSteps::texts_fail, crate::proofs::TowerSteps::reading_fails, crate::proofs::TowerRefusals::images_absent_in, crate::proofs::TowerRefusals::texts_refused_in, crate::proofs::TowerRefusals::base_refused_in, crate::proofs::SoundBases::base_sound))]
 pub(crate) fn fetch_tower<S: Store>(
     alloc: Global,
     below: &[Text],
