@@ -146,15 +146,15 @@ three false b c e = absurd cc
 made_formed : (out : List ℕ) (below files : List (List ℕ)) (b : Bool) → (is_name out && are_levels (most_below (mains_in files == 1)) below && are_texts files) ≡ b → IsAnswerable (if b then Tower (Make out below files) else Bad)
 made_formed out below files true e =
     let p = three (is_name out) (are_levels (most_below (mains_in files == 1)) below) (are_texts files) e in
-    let levels = three (nat_le 1 (length below)) (nat_le (length below) (most_below (mains_in files == 1))) (every is_name below) p.1.0 in
-    let texts = three (not (length files == 0)) (every is_file files) (nat_le (mains_in files) 1) p.1.1 in
-    record { one_main = leb-true (mains_in files) 1 texts.1.1; some = leb-true 1 (length below) levels.0; few = leb-true (length below) (most_below (mains_in files == 1)) levels.1.0 }
+    let levels = three (nat_le 1 (length below)) (nat_le (length below) (most_below (mains_in files == 1))) (every is_name below) p.1 in
+    let texts = three (not (length files == 0)) (every is_file files) (nat_le (mains_in files) 1) p.2 in
+    record { one_main = leb-true (mains_in files) 1 texts.2; some = leb-true 1 (length below) levels.0; few = leb-true (length below) (most_below (mains_in files == 1)) levels.1 }
 made_formed out below files false e = tt
 
 run_formed : (client : List ℕ) (below : List (List ℕ)) (fuel : ℕ) (b : Bool) → (is_name client && are_levels MAX_BELOW_CLIENT below) ≡ b → IsAnswerable (if b then Tower (RunOn client below fuel) else Bad)
 run_formed client below fuel true e =
     let levels = three (nat_le 1 (length below)) (nat_le (length below) MAX_BELOW_CLIENT) (every is_name below) (second (is_name client) (are_levels MAX_BELOW_CLIENT below) e) in
-    record { some = leb-true 1 (length below) levels.0; few = leb-true (length below) MAX_BELOW_CLIENT levels.1.0 }
+    record { some = leb-true 1 (length below) levels.0; few = leb-true (length below) MAX_BELOW_CLIENT levels.1 }
 run_formed client below fuel false e = tt
 
 run_on_formed : (client : List ℕ) (below : List (List ℕ)) (fuel : Option ℕ) → IsAnswerable (run_on_with client below fuel)

@@ -13,7 +13,7 @@ use som_model::{NoMemory, Text};
 use std::alloc::Global;
 
 // The name of the level at which the class of a breach stands.
-fn level_name<'a>(names: &'a [Text], breach: &LevelBreach) -> &'a Text
+pub fn level_name<'a>(names: &'a [Text], breach: &LevelBreach) -> &'a Text
     requires { breach.now.level < length names.now }
     ensures { result.now ≡ name_at names.now breach.now.level }
 {
