@@ -115,6 +115,13 @@ many_under files (n ∷ ns) (l ∷ ls) under = ap suc (many_under files ns ls un
 
 -- ---- all libraries
 
+-- the images of these libraries are got, and their flat interface comes of them
+pub record BaseThere (files : Files) (names : List (List ℕ)) (is : List Interface) : Type 0 where
+  pub images : List (List ℕ)
+  pub got : images_in names files ≡ Ok images
+  pub many : length images ≡ length names
+  pub base : base_in names images ≡ Ok (base_of is)
+
 pub uppers_many : (files : Files) (first : List ℕ) (others : List (List ℕ)) (base : Release) (uppers : List Level) → AreTowerUnder files first others base uppers → length uppers ≡ length others
 uppers_many files first others base uppers t = many_under files others uppers t.uppers_under
 
@@ -128,7 +135,7 @@ module _ (files : Files) (first : List ℕ) (others : List (List ℕ)) (base : R
   abbrev is : List Interface
   is = interfaces_of base uppers
 
-  pub libraries : AreLibraries base uppers
+  libraries : AreLibraries base uppers
   libraries = record {
     base_ok = t.base_under.conforms;
     base_counted = release_counts base (image_within base t.base_under.bytes t.base_under.spelled);
@@ -146,15 +153,15 @@ module _ (files : Files) (first : List ℕ) (others : List (List ℕ)) (base : R
   abbrev there : Uppers files 1 others uppers
   there = uppers_there files 1 others uppers t.uppers_under (λ i l at. subst (λ (k : ℕ). IsLibraryAbove k l) (and_one i) (t.each i l at))
 
-  abbrev pub images : List (List ℕ)
+  abbrev images : List (List ℕ)
   images = t.base_under.bytes ∷ there.images
 
-  pub images_got : images_in names files ≡ Ok images
+  images_got : images_in names files ≡ Ok images
   images_got =
       ap (λ (x : Result (List ℕ) Refusal). x >>= λ b. images_in others files >>= λ bs. Ok (b ∷ bs)) (got_by (get files first) first t.base_under.bytes t.base_under.image_is)
       ∙ ap (λ (x : Result (List (List ℕ)) Refusal). x >>= λ bs. Ok (t.base_under.bytes ∷ bs)) there.got
 
-  pub images_many : length images ≡ length names
+  images_many : length images ≡ length names
   images_many = ap suc there.many
 
   read : levels_in names images ≡ Ok below
@@ -191,8 +198,11 @@ module _ (files : Files) (first : List ℕ) (others : List (List ℕ)) (base : R
 
   -- ---- their flat interface
 
-  pub base_there : IsSoundFlat is → base_in names images ≡ Ok (base_of is)
+  base_there : IsSoundFlat is → base_in names images ≡ Ok (base_of is)
   base_there sound =
       let none : flat_breach is ≡ None = none_broken is (faces_load base uppers libraries nothing_broken) sound.rules in
       sym (with_standing names images below read tt kept is standing)
       ∙ flat_made names is tt tt (base_of is) (ap (flat_kept_or names) none) (few_classes (length (flat_interface is).classes) sound.few) refl
+
+  pub tower_there : IsSoundFlat is → BaseThere files names is
+  tower_there sound = record { images = images; got = images_got; many = images_many; base = base_there sound }

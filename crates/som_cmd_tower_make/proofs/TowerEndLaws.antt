@@ -14,13 +14,12 @@ use Rattle.som_cmd_sources.specs.PutAnswer.{puts}
 use Rattle.som_cmd_sources.proofs.TextLaws.{texts_known}
 use Rattle.som_cmd_build.specs.PutEnds.{LeavesFiles}
 use Rattle.som_cmd_build.proofs.PutEndLaws.{put_as}
-use Rattle.som_cmd_tower_make.specs.declared.base.TowerBase.{TowerBase}
 use Rattle.som_cmd_tower_make.specs.declared.parts.TowerParts.{TowerParts}
 use Rattle.som_cmd_tower_make.specs.TowerMakeAnswer.{IsTowerMade, IsTowerMakeAnswer, has_main}
 use Rattle.som_cmd_tower_make.specs.TowerMakeEnds.{HoldsLevelTexts, PutsLevel}
-use Rattle.som_cmd_tower_make.specs.TowerParts.{base_in, base_of, tower_in}
+use Rattle.som_cmd_tower_make.specs.TowerParts.{base_of, tower_in}
 use Rattle.som_cmd_tower_make.proofs.SoundBases.{base_sound}
-use Rattle.som_cmd_tower_make.proofs.StoredTowers.{base_there, images, images_got, images_many, uppers_many}
+use Rattle.som_cmd_tower_make.proofs.StoredTowers.{BaseThere, tower_there, uppers_many}
 use Rattle.som_cmd_tower_make.proofs.TowerAnswered.{few_levels, one_tower_answer, sizes_below}
 use Rattle.som_cmd_tower_make.proofs.TowerSteps.{all_parts}
 
@@ -40,18 +39,18 @@ module _ (files : Files) (first : List ℕ) (others names : List (List ℕ)) (l 
   few_uppers : length m.uppers + 1 ≤ 8
   few_uppers = let n = few_levels client (length below) few in let many = uppers_many files first others m.base m.uppers m.tower in omega (arith, n, many)
 
-  there : base_in below (images files first others m.base m.uppers m.tower few_uppers) ≡ Ok (base_of is)
-  there = base_there files first others m.base m.uppers m.tower few_uppers m.sound
+  there : BaseThere files below is
+  there = tower_there files first others m.base m.uppers m.tower few_uppers m.sound
 
   abbrev parts : TowerParts
   parts = record { base = base_of is; texts = m.texts }
 
   parts_there : tower_in below names files ≡ Ok parts
-  parts_there = all_parts below names files (images files first others m.base m.uppers m.tower few_uppers) m.texts (base_of is) (images_got files first others m.base m.uppers m.tower few_uppers) m.texts_are there
+  parts_there = all_parts below names files there.images m.texts (base_of is) there.got m.texts_are there.base
 
   made : (image : List ℕ) × (tower_image (level_with l.program (sizes_of is) client) ≡ Some image)
   made =
-      let sound = base_sound below (images files first others m.base m.uppers m.tower few_uppers) (base_of is) (images_many files first others m.base m.uppers m.tower few_uppers) (omega arith) (few_levels client (length below) few) there in
+      let sound = base_sound below there.images (base_of is) there.many (omega arith) (few_levels client (length below) few) there.base in
       level_image (flat_interface is) (sizes_of is) client m.texts l.program sound.base (sizes_below client (length below) (base_of is) (omega arith) few sound) (texts_known names files m.texts m.texts_are).1 m.stand
 
   same_level : level_with l.program (sizes_of is) client ≡ l

@@ -57,11 +57,14 @@ uppers_only below (n ∷ ns) (b ∷ bs) =
     then_only Fine (level_read below false n b) (λ (l : Level). uppers_in (suc below) ns bs >>= λ ls. Ok (l ∷ ls)) (read_only tower_make_statuses five n (placed_in below false b))
     (λ l. then_only Fine (uppers_in (suc below) ns bs) (λ (ls : List Level). Ok (l ∷ ls)) (uppers_only (suc below) ns bs) (λ ls. tt))
 
+abbrev levels_of : Release → List Level → Result LevelsBelow Refusal
+levels_of r ls = Ok (record { base = r; uppers = ls })
+
 levels_only : (names images : List (List ℕ)) → Only Fine (levels_in names images)
 levels_only names images =
-    then_only Fine (release_in (name_at names 0) (name_at images 0)) (λ (r : Release). uppers_in 1 (drop 1 names) (drop 1 images) >>= λ ls. Ok (record { base = r; uppers = ls }))
+    then_only Fine (release_in (name_at names 0) (name_at images 0)) (λ (r : Release). uppers_in 1 (drop 1 names) (drop 1 images) >>= levels_of r)
     (read_only tower_make_statuses five (name_at names 0) (library_in (name_at images 0)))
-    (λ r. then_only Fine (uppers_in 1 (drop 1 names) (drop 1 images)) (λ (ls : List Level). Ok (record { base = r; uppers = ls })) (uppers_only 1 (drop 1 names) (drop 1 images)) (λ ls. tt))
+    (λ r. then_only Fine (uppers_in 1 (drop 1 names) (drop 1 images)) (levels_of r) (uppers_only 1 (drop 1 names) (drop 1 images)) (λ ls. tt))
 
 each_only : (names : List (List ℕ)) (ls : List Level) → Only Fine (each_passes level_rules_kept names ls)
 each_only [] ls = tt
