@@ -149,7 +149,7 @@ none_written asked mains files count now written = nothing_written (λ before. I
 
 -- ---- the end of the call is that of the command that it asks for
 
-ends_by : (asked by : Asked) (files : Option Files) (told : Files) → asked ≡ by → files ≡ Some told → (status : ℕ) (new_files : Option Files) (old new : Option (List ℕ)) → EndsAsTold asked files status new_files old new
+pub ends_by : (asked by : Asked) (files : Option Files) (told : Files) → asked ≡ by → files ≡ Some told → (status : ℕ) (new_files : Option Files) (old new : Option (List ℕ)) → EndsAsTold asked files status new_files old new
     → steps.EndsAs (λ e. IsAnswer told by e) status new_files old new
 ends_by asked by files told is same status new_files old new e =
     subst (λ (x : Option Files). EndsAsTold by x status new_files old new) same (subst (λ (x : Asked). EndsAsTold x files status new_files old new) is e)

@@ -4,6 +4,7 @@ mod FuelLaws
 mod FuelSpelled
 mod OneAnswer
 mod EndLaws
+mod TowerEndLaws
 mod Complete
 mod CountLaws
 mod ChainLaws

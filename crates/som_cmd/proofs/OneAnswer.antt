@@ -10,7 +10,7 @@ use Rattle.som_cmd_tasks.specs.TasksAnswer.{tasks_ending}
 use Rattle.som_cmd_witness.proofs.WitnessLaws.{one_witness_answer, some_witness_answer}
 use Rattle.som_cmd_generate.proofs.AnswerLaws.{one_generate_answer, some_generate_answer}
 use Rattle.som_cmd_tower_check.specs.TowerCheckAnswer.{line_ending, line_of}
-use Rattle.som_cmd_tower_make.proofs.AnswerLaws.{one_tower_make_answer, some_tower_make_answer}
+use Rattle.som_cmd_tower_make.proofs.TowerAnswered as making
 use Rattle.som_cmd_tower_run.specs.TowerRunAnswer.{tower_run_ending}
 use Rattle.som_cmd_towers.specs.Answer.{IsTowerAnswer}
 use Rattle.som_cmd_towers.specs.Asked.{TowerAsked, IsFormed, Make, Compare, RunOn}
@@ -20,13 +20,13 @@ use Rattle.som_cmd.proofs.WordLaws.{IsAnswerable}
 
 -- there is an answer to what is asked for of towers
 some_tower_answer : (files : Files) (what : TowerAsked) → IsFormed what → (told : Ending) × IsTowerAnswer what files told
-some_tower_answer files (Make out below names) formed = some_tower_make_answer files out below names formed.one_main formed.some formed.few
+some_tower_answer files (Make out below names) formed = making.tower_answer files out below names formed.some formed.few formed.one_main
 some_tower_answer files (Compare old new) formed = (line_ending files (line_of old new files), refl)
 some_tower_answer files (RunOn client below fuel) formed = (tower_run_ending client below fuel files, refl)
 
 -- and no other
 one_tower_answer : (files : Files) (what : TowerAsked) (a b : Ending) → IsTowerAnswer what files a → IsTowerAnswer what files b → a ≡ b
-one_tower_answer files (Make out below names) a b x y = one_tower_make_answer files out below names a b x y
+one_tower_answer files (Make out below names) a b x y = making.one_tower_answer files out below names a b x y
 one_tower_answer files (Compare old new) a b x y = x ∙ sym y
 one_tower_answer files (RunOn client below fuel) a b x y = x ∙ sym y
 

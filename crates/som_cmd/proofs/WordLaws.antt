@@ -14,6 +14,7 @@ use Rattle.som_generator.specs.declared.limits.TheConstants.{MAX_CLASSES}
 use Rattle.som_cmd.specs.Words.{Asked, Show, Check, Library, Client, Tasks, Witness, Generate, Tower, Bad, are_clients, are_files, asked, asked_of, client_asked, from_one_to, fuel_of, generate_asked, generate_with, is_file, is_name, is_pattern, library_asked, rounds_of, run_asked, run_with, tasks_asked, tower_asked, are_levels, are_texts, compare_asked, count_before, fuel_in, is_fuel_flag, make_asked, run_on_asked, run_on_with, trace_in, turns_with, witness_asked}
 use Rattle.som_towerimage.specs.declared.level.TheConstants.{MAX_BELOW_CLIENT}
 use Rattle.som_towerimage.specs.Spelling.{most_below}
+use Rattle.som_cmd_tower_make.specs.TowerMakeAnswer.{has_main}
 use Rattle.som_cmd_towers.specs.Asked.{IsFormed, Make, Compare, RunOn}
 
 -- ---- one word after the other
@@ -143,12 +144,12 @@ three true true c e = (refl, refl, e)
 three true false c e = absurd cc
 three false b c e = absurd cc
 
-made_formed : (out : List ℕ) (below files : List (List ℕ)) (b : Bool) → (is_name out && are_levels (most_below (mains_in files == 1)) below && are_texts files) ≡ b → IsAnswerable (if b then Tower (Make out below files) else Bad)
+made_formed : (out : List ℕ) (below files : List (List ℕ)) (b : Bool) → (is_name out && are_levels (most_below (has_main files)) below && are_texts files) ≡ b → IsAnswerable (if b then Tower (Make out below files) else Bad)
 made_formed out below files true e =
-    let p = three (is_name out) (are_levels (most_below (mains_in files == 1)) below) (are_texts files) e in
-    let levels = three (nat_le 1 (length below)) (nat_le (length below) (most_below (mains_in files == 1))) (every is_name below) p.1 in
+    let p = three (is_name out) (are_levels (most_below (has_main files)) below) (are_texts files) e in
+    let levels = three (nat_le 1 (length below)) (nat_le (length below) (most_below (has_main files))) (every is_name below) p.1 in
     let texts = three (not (length files == 0)) (every is_file files) (nat_le (mains_in files) 1) p.2 in
-    record { one_main = leb-true (mains_in files) 1 texts.2; some = leb-true 1 (length below) levels.0; few = leb-true (length below) (most_below (mains_in files == 1)) levels.1 }
+    record { one_main = leb-true (mains_in files) 1 texts.2; some = leb-true 1 (length below) levels.0; few = leb-true (length below) (most_below (has_main files)) levels.1 }
 made_formed out below files false e = tt
 
 run_formed : (client : List ℕ) (below : List (List ℕ)) (fuel : ℕ) (b : Bool) → (is_name client && are_levels MAX_BELOW_CLIENT below) ≡ b → IsAnswerable (if b then Tower (RunOn client below fuel) else Bad)
@@ -170,7 +171,7 @@ tower_formed : (kind name : List ℕ) (words : List (List ℕ)) → IsAnswerable
 tower_formed kind name words =
     let levels = take (count_before is_file words) words in
     let files = drop (count_before is_file words) words in
-    if_mains (bytes_eq kind (codes "make")) (make_asked name words) _ (made_formed name levels files (is_name name && are_levels (most_below (mains_in files == 1)) levels && are_texts files) refl)
+    if_mains (bytes_eq kind (codes "make")) (make_asked name words) _ (made_formed name levels files (is_name name && are_levels (most_below (has_main files)) levels && are_texts files) refl)
     (if_mains (bytes_eq kind (codes "check")) (compare_asked name words) _ (compared_formed name words)
     (if_mains (bytes_eq kind (codes "run")) (run_on_asked name words) Bad
     (run_on_formed name (take (count_before is_fuel_flag words) words) (fuel_in (drop (count_before is_fuel_flag words) words))) tt))

@@ -12,6 +12,7 @@ use Rattle.som_cmd_tasks.specs.declared.limits.TheConstants.{MAX_CLIENTS, MAX_PA
 use Rattle.som_cmd_tasks.specs.Patterns.{names_client, turns_given}
 use Rattle.som_towerimage.specs.declared.level.TheConstants.{MAX_BELOW_CLIENT}
 use Rattle.som_towerimage.specs.Spelling.{most_below}
+use Rattle.som_cmd_tower_make.specs.TowerMakeAnswer.{has_main}
 use Rattle.som_cmd_towers.specs.Asked.{TowerAsked, Make, Compare, RunOn, tower_by}
 use Rattle.som_cmd.specs.declared.words.Command.{Command}
 use Rattle.som_cmd.specs.declared.words.Command.TheVariants as commands
@@ -172,7 +173,7 @@ are_texts files = not (length files == 0) && every is_file files && nat_le (main
 
 -- what `tower make` asks for with a name, names of levels and files: a client, where there is a main, may have a level more below it
 abbrev pub make_with : List ℕ → List (List ℕ) → List (List ℕ) → Asked
-make_with out below files = if is_name out && are_levels (most_below (mains_in files == 1)) below && are_texts files then Tower (Make out below files) else Bad
+make_with out below files = if is_name out && are_levels (most_below (has_main files)) below && are_texts files then Tower (Make out below files) else Bad
 
 -- what `tower make` asks for with a name and the words after it: files stand last
 abbrev pub make_asked : List ℕ → List (List ℕ) → Asked

@@ -10,9 +10,14 @@ ghost use Rattle.som_cmd.specs.Generating.{GeneratesAsked, IsMadeFor};
 ghost use Rattle.som_cmd.specs.PutEnds.{AreClientTextsOf, AreTextsOf, KeepsFiles, PutsProgram, PutsRelease};
 ghost use Rattle.som_cmd.specs.Refused.{TellsBadWords, TellsOneLine, statuses_of};
 ghost use Rattle.som_cmd.specs.Witnessing.{AreWitnessed, TellsWitnessed};
+ghost use Rattle.som_cmd.specs.Towers.{AreLevelTextsOf, AreLevelsCompared, AreTowerImagesOf, IsNewestTower, PutsLevel};
 ghost use Rattle.som_cmd.specs.Words.{Bad, asked};
 ghost use Rattle.som_cmd_tasks.specs.Newest.{Compiled, TurnsOnNewest, programs_of};
 ghost use Rattle.som_cmd_tasks.specs.TasksEnds.{KeepsAll, TellsTurns};
+ghost use Rattle.som_cmd_tower_check.specs.TowerCheckAnswer.{first_lost};
+ghost use Rattle.som_cmd_tower_check.specs.TowerCheckEnds.{TellsLevelAccepted, TellsLevelBreach};
+ghost use Rattle.som_cmd_tower_run.specs.TowerNewest.{RunsOnNewestTower};
+ghost use Rattle.som_cmd_tower_run.specs.TowerRunEnds.{RunsTowerAs, TellsLevelNotKept};
 ghost use Rattle.som_cmd_generate.specs.GenerateEnds.{TellsGenerated};
 ghost use Rattle.som_generator.specs.declared.made.Made.{Made};
 ghost use Rattle.som_io.specs.Outside.{Rose};
@@ -22,10 +27,12 @@ ghost use Rattle.som_model.specs.Lists.{Mem};
 ghost use Rattle.som_model.specs.declared.program.ClientProgram.{ClientProgram};
 ghost use Rattle.som_model.specs.declared.program.Release.{Release};
 ghost use Rattle.som_sources.specs.declared.source.Source.{Source};
+ghost use Rattle.som_tower.specs.Towers.{programs_above, tower_break};
+ghost use Rattle.som_towerimage.specs.declared.level.Level.{Level};
 ghost use Rattle.som_cmd_run.specs.Newest.{RunsOnNewest};
 ghost use Rattle.som_cmd_run.specs.RunEnds.{RunsAs, TellsNotKept};
 ghost use Rattle.som_cmd_steps.specs.Status.{is_calm_status};
-ghost use Rattle.std.specs.Prelude.{Bool, IsTrue, List as Seq, Some, ℕ, ◌≡◌, ◌≢◌, ◌⊎◌};
+ghost use Rattle.std.specs.Prelude.{Bool, IsTrue, List as Seq, None, Some, [], ℕ, ◌∷◌, ◌≡◌, ◌≢◌, ◌⊎◌};
 
 use crate::words::{Command, command_of};
 use som_cmd_build::{build_client, build_library};
@@ -173,6 +180,36 @@ pub fn run_som<S: Store, K: Sink>(
     // else the breach and the texts of the client that shows it, or that it has none, and the client's image stands then under the name. No other file is changed.
     ensures witnessed { (name older newer : Seq ℕ) (o n : Release) → AreWitnessed (asked words.now) (S.files store.old) name older newer o n
         → result ≢ 6 → result ≢ 8 → result ≢ 10 → TellsWitnessed o n (S.files store.old) name result (S.files store.new) (K.written out.old) (K.written out.new) }
+
+    // So it is with libraries that stand on others, up to eight levels, each level with releases of its own. Where the lists of releases are an accepted tower: each member was
+    // made against members of the lists below it, and keeps, with the levels of its own below it, what the one before it promised with those below that one: a client of the
+    // tower that was compiled from texts against any members, one of each list, runs on the newest of all. What is printed is exactly the text of what the texts mean among the
+    // classes of these, with the fuel that is asked for, and the status is that meaning's. Only want of memory, or a fault of the store or the sink that is counted, ends it
+    // otherwise. And the metaclass of each of these classes descends from the metaclass of each of its parents.
+    ensures tower_newest { (earlier : Seq Release) (base : Release) (lists : Seq (Seq Level)) (newest : Seq Level) (texts : Seq Source) (c : Level) (fuel : ℕ) →
+        IsNewestTower (asked words.now) (S.files store.old) earlier base lists newest texts c fuel →
+        RunsOnNewestTower base newest c fuel (FailsOn (S.files store.old) (asked words.now)) (S.faults store.old) (S.faults store.new) (K.faults out.old) (K.faults out.new)
+        result (K.written out.old) (K.written out.new) }
+
+    // A client of a tower that conforms runs on any levels that conform, where each level and the client is kept by those below it, whoever made their images.
+    ensures tower_meaning { (below : Seq (Seq ℕ)) (base : Release) (uppers : Seq Level) (c : Level) (fuel : ℕ) → AreTowerImagesOf (asked words.now) (S.files store.old) below base uppers c fuel
+        → tower_break (interface_of base ∷ []) (programs_above uppers c) ≡ None → result ≢ 6 → result ≢ 8 → result ≢ 10 → RunsTowerAs base uppers c fuel result (K.written out.old) (K.written out.new) }
+
+    // Of any other levels that conform the first thing is told that one doesn't keep of what stands above it.
+    ensures tower_incompatible { (below : Seq (Seq ℕ)) (base : Release) (uppers : Seq Level) (c : Level) (fuel level : ℕ) (b : CompatBreach) → AreTowerImagesOf (asked words.now) (S.files store.old) below base uppers c fuel
+        → tower_break (interface_of base ∷ []) (programs_above uppers c) ≡ Some (level, b) → result ≢ 6 → result ≢ 8 → result ≢ 10 → TellsLevelNotKept below level b result (K.written out.old) (K.written out.new) }
+
+    // Of two libraries that stand above as many levels and conform the newer one is accepted exactly where it keeps, with the levels of its own, all that the older one promises with those below that.
+    ensures tower_accepted { (name : Seq ℕ) (o n : Level) → AreLevelsCompared (asked words.now) (S.files store.old) name o n
+        → result ≢ 6 → result ≢ 8 → result ≢ 10 → TellsLevelAccepted o n result (K.written out.old) (K.written out.new) }
+
+    // Of any others the first thing is told that the newer one doesn't keep.
+    ensures tower_breach { (name : Seq ℕ) (o n : Level) (found : ℕ × CompatBreach) → AreLevelsCompared (asked words.now) (S.files store.old) name o n → first_lost o n ≡ Some found
+        → result ≢ 6 → result ≢ 8 → result ≢ 10 → TellsLevelBreach name found.1 result (K.written out.old) (K.written out.new) }
+
+    // Texts that stand for a level, or for a client of a tower, against the flat interface of levels that stand on one another are compiled to its tower image, which then stands under the name.
+    ensures tower_compiled { (name : Seq ℕ) (l : Level) → AreLevelTextsOf (asked words.now) (S.files store.old) name l
+        → result ≢ 6 → result ≢ 8 → result ≢ 10 → PutsLevel (S.files store.old) name l result (S.files store.new) (K.written out.old) (K.written out.new) }
 
     // What the generator makes of so many classes, and its client comes to on the second release, is printed, with that run's status.
     ensures generated { (n : ℕ) (m : Made) → IsMadeFor (asked words.now) n m → result ≢ 8 → result ≢ 10 → TellsGenerated n m result (K.written out.old) (K.written out.new) }

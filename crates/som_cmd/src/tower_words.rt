@@ -1,12 +1,12 @@
 //! Parses the words after `tower` to a command on towers: names of levels, files of texts, fuel.
 
 ghost use Rattle.som_cmd.specs.Words.{are_levels, are_texts, asked_by, compare_asked, count_before, fuel_in, is_file, is_fuel_flag, make_asked, make_with, run_on_asked, run_on_with, tower_asked};
-ghost use Rattle.som_sources.specs.Sources.{mains_in};
+ghost use Rattle.som_cmd_tower_make.specs.TowerMakeAnswer.{has_main};
 ghost use Rattle.som_towerimage.specs.Spelling.{most_below};
-ghost use Rattle.std.specs.Prelude.{codes, length, ◌==◌, ◌≡◌, ◌≤◌};
+ghost use Rattle.std.specs.Prelude.{codes, length, ◌≡◌, ◌≤◌};
 ghost use Rattle.std.specs.Str.{bytes_eq};
 
-use crate::words::{Command, all_files, are_names, is_file, mains, value_of};
+use crate::words::{Command, all_files, are_names, is_file, is_main, mains, value_of};
 use som_cmd_towers::TowerCommand;
 use som_model::{DEFAULT_FUEL, Text};
 use som_towerimage::{MAX_BELOW_CLIENT, MAX_BELOW_LIBRARY};
@@ -67,11 +67,23 @@ fn count_before_fuel(words: &[Text]) -> usize
     count
 }
 
-// How many levels may be below what files with so many mains are compiled to.
-fn most_below(mains: usize) -> usize
-    ensures { result ≡ most_below (mains == 1) }
+// Whether one of the words names a file with a main.
+fn has_main(words: &[Text]) -> bool
+    ensures { result ≡ has_main words.now }
 {
-    if mains == 1 {
+    for word in words {
+        if is_main(word) {
+            return true;
+        }
+    }
+    false
+}
+
+// How many levels may be below a client, or below a library.
+fn most_below(client: bool) -> usize
+    ensures { result ≡ most_below client }
+{
+    if client {
         usize::from(MAX_BELOW_CLIENT)
     } else {
         usize::from(MAX_BELOW_LIBRARY)
@@ -96,7 +108,7 @@ fn are_texts(files: &[Text]) -> bool
 fn make_with<'a>(out: &'a Text, below: &'a [Text], files: &'a [Text]) -> Command<'a>
     ensures { asked_by result ≡ make_with out.now below.now files.now }
 {
-    let most = most_below(mains(files));
+    let most = most_below(has_main(files));
     if !out.is_empty() && are_levels(most, below) && are_texts(files) {
         Command::Tower(TowerCommand::Make { out, below, files })
     } else {

@@ -113,7 +113,7 @@ fn is_tower(word: &Text) -> bool
     word.is(b"tower")
 }
 
-fn is_main(word: &Text) -> bool
+pub(crate) fn is_main(word: &Text) -> bool
     ensures { result ≡ is_main word.now }
 {
     word.as_slice().ends_with(b".main")

@@ -1,8 +1,9 @@
 -- What is asked of towers of libraries.
-use Rattle.std.specs.Prelude.{ℕ, ◌≤◌, ◌==◌, List, length}
+use Rattle.std.specs.Prelude.{ℕ, ◌≤◌, List, length}
 use Rattle.som_sources.specs.Sources.{mains_in}
 use Rattle.som_towerimage.specs.declared.level.TheConstants.{MAX_BELOW_CLIENT}
 use Rattle.som_towerimage.specs.Spelling.{most_below}
+use Rattle.som_cmd_tower_make.specs.TowerMakeAnswer.{has_main}
 use Rattle.som_cmd_towers.specs.declared.command.TowerCommand.{TowerCommand}
 use Rattle.som_cmd_towers.specs.declared.command.TowerCommand.TheVariants as commands
 
@@ -23,7 +24,7 @@ tower_by (commands.Run client below fuel) = RunOn client.now below.now fuel
 pub record CanBeMade (below files : List (List ℕ)) : Type 0 where
   pub one_main : mains_in files ≤ 1
   pub some : 1 ≤ length below
-  pub few : length below ≤ most_below (mains_in files == 1)
+  pub few : length below ≤ most_below (has_main files)
 
 -- there is a level below and not too many
 pub record CanBeBelow (below : List (List ℕ)) : Type 0 where

@@ -1,6 +1,8 @@
 use Rattle.som_cmd.specs.Words.{asked}
 use Rattle.som_cmd.proofs.Complete.{complete}
 use Rattle.som_cmd.proofs.EndLaws.{means, newest_runs, newest_turns, turns_told, unkept, shown, shown_client, accepted, breach, compiled, client_compiled, witnessed, generated}
+use Rattle.som_cmd.proofs.TowerEndLaws.{level_accepted, level_breach, level_compiled, newest_tower, tower_means, tower_unkept}
+use Rattle.som_cmd.proofs.WordLaws.{asked_mains}
 use Rattle.som_cmd.proofs.top.run_som.Goals as goal
 
 pub returns-clause-complete : goal.returns-clause-complete
@@ -50,3 +52,27 @@ returns-clause-witnessed g c = λ name older newer o n images not6 not8 not10. w
 
 pub returns-clause-generated : goal.returns-clause-generated
 returns-clause-generated g c = λ n m made not8 not10. generated (asked c.args.words.now) c.do_command.result (g.K.Sink.written c.args.out.now) (g.K.Sink.written c.do_command.new.out) c.do_command.ensures.generates n m made not8 not10
+
+pub returns-clause-tower_newest : goal.returns-clause-tower_newest
+returns-clause-tower_newest g c = λ earlier base lists newest texts client fuel images.
+    newest_tower (asked c.args.words.now) (g.S.Store.files c.args.store.now) c.do_command.result (g.S.Store.files c.do_command.new.store) (g.K.Sink.written c.args.out.now) (g.K.Sink.written c.do_command.new.out) (asked_mains c.args.words.now) earlier base lists newest texts client fuel images (g.S.Store.faults c.args.store.now) (g.S.Store.faults c.do_command.new.store) (g.K.Sink.faults c.args.out.now) (g.K.Sink.faults c.do_command.new.out) c.do_command.ensures.answered c.do_command.ensures.store_failed c.do_command.ensures.sink_failed c.do_command.ensures.front
+
+pub returns-clause-tower_meaning : goal.returns-clause-tower_meaning
+returns-clause-tower_meaning g c = λ below base uppers client fuel images none not6 not8 not10.
+    tower_means (asked c.args.words.now) (g.S.Store.files c.args.store.now) c.do_command.result (g.S.Store.files c.do_command.new.store) (g.K.Sink.written c.args.out.now) (g.K.Sink.written c.do_command.new.out) (c.do_command.ensures.answered not6 not8 not10) below base uppers client fuel images none
+
+pub returns-clause-tower_incompatible : goal.returns-clause-tower_incompatible
+returns-clause-tower_incompatible g c = λ below base uppers client fuel level b images is not6 not8 not10.
+    tower_unkept (asked c.args.words.now) (g.S.Store.files c.args.store.now) c.do_command.result (g.S.Store.files c.do_command.new.store) (g.K.Sink.written c.args.out.now) (g.K.Sink.written c.do_command.new.out) (c.do_command.ensures.answered not6 not8 not10) below base uppers client fuel level b images is
+
+pub returns-clause-tower_accepted : goal.returns-clause-tower_accepted
+returns-clause-tower_accepted g c = λ name o n images not6 not8 not10.
+    level_accepted (asked c.args.words.now) (g.S.Store.files c.args.store.now) c.do_command.result (g.S.Store.files c.do_command.new.store) (g.K.Sink.written c.args.out.now) (g.K.Sink.written c.do_command.new.out) (c.do_command.ensures.answered not6 not8 not10) name o n images
+
+pub returns-clause-tower_breach : goal.returns-clause-tower_breach
+returns-clause-tower_breach g c = λ name o n found images lost not6 not8 not10.
+    level_breach (asked c.args.words.now) (g.S.Store.files c.args.store.now) c.do_command.result (g.S.Store.files c.do_command.new.store) (g.K.Sink.written c.args.out.now) (g.K.Sink.written c.do_command.new.out) (c.do_command.ensures.answered not6 not8 not10) name o n found images lost
+
+pub returns-clause-tower_compiled : goal.returns-clause-tower_compiled
+returns-clause-tower_compiled g c = λ name l texts not6 not8 not10.
+    level_compiled (asked c.args.words.now) (g.S.Store.files c.args.store.now) c.do_command.result (g.S.Store.files c.do_command.new.store) (g.K.Sink.written c.args.out.now) (g.K.Sink.written c.do_command.new.out) (c.do_command.ensures.answered not6 not8 not10) (g.S.Store.faults c.args.store.now) (g.S.Store.faults c.do_command.new.store) c.do_command.ensures.files (asked_mains c.args.words.now) name l texts
