@@ -1,6 +1,6 @@
-mod Checking
+mod Checked
 mod Breaking
-mod Laying
+mod Laid
 mod Failing
 mod Refusing
 mod Running

@@ -8,10 +8,9 @@ ghost use Rattle.som_cmd_steps.specs.Lines.{not_kept};
 ghost use Rattle.som_cmd_steps.specs.Refusing.{RefusesAs};
 ghost use Rattle.som_cmd_tower_run.specs.Kernels.{Lays, LaysTold};
 ghost use Rattle.som_cmd_tower_run.specs.Refusals.{IsTowerRefusal};
-ghost use Rattle.som_cmd_tower_run.specs.Steps.{kept_tower, tower_of};
+ghost use Rattle.som_cmd_tower_run.specs.Steps.{kept_tower, laid_of};
 ghost use Rattle.som_compat_levels.specs.Told.{IsTold};
 ghost use Rattle.som_model.specs.Compatible.{CompatBreach};
-ghost use Rattle.som_model.specs.Steps.{◌>>=◌};
 ghost use Rattle.som_order.specs.Names.{name_at};
 ghost use Rattle.som_tower.specs.Towers.{IsTowerOf};
 ghost use Rattle.std.specs.Prelude.{Some, length, ℕ, ◌+◌, ◌<◌, ◌∷◌, ◌≡◌, ◌≤◌};
@@ -39,7 +38,7 @@ fn stop_of(alloc: Global, below: &[Text], breach: &LevelBreach) -> CommandStop
 }
 
 // The kernel of a tower, or what a level doesn't keep first.
-#[tactic(auto, using(crate::proofs::Breaking::breach_low, crate::proofs::Laying::not_laid, crate::proofs::Laying::breach_quietly, crate::proofs::Laying::breach_refused, crate::proofs::Laying::laid))]
+#[tactic(auto, using(crate::proofs::Breaking::breach_low, crate::proofs::Laid::not_laid, crate::proofs::Laid::breach_quietly, crate::proofs::Laid::breach_refused, crate::proofs::Laid::laid))]
 fn lay_checked(alloc: Global, below: &[Text], tower: &Tower) -> Result<Kernel<Linked>, CommandStop>
     requires tower { IsTowerOf tower.now.levels.base tower.now.levels.uppers tower.now.client }
     requires many { length tower.now.levels.uppers + 1 ≡ length below.now }
@@ -62,7 +61,7 @@ fn lay_checked(alloc: Global, below: &[Text], tower: &Tower) -> Result<Kernel<Li
 }
 
 // The kernel of a tower of these bytes, or what is first in the way of it.
-#[tactic(auto, using(crate::proofs::Laying::not_checked, crate::proofs::Laying::then_laid, crate::proofs::Refusing::checked_refused, crate::proofs::Refusing::laid_refused))]
+#[tactic(auto, using(crate::proofs::Laid::not_checked, crate::proofs::Laid::then_laid, crate::proofs::Refusing::checked_refused, crate::proofs::Refusing::laid_refused))]
 fn link_bytes(
     alloc: Global,
     client: &Text,
@@ -73,7 +72,7 @@ fn link_bytes(
     requires some { 1 ≤ length below.now }
     requires few { length below.now ≤ 8 }
     requires long { length images.now ≡ length below.now }
-    ensures lays { Lays (tower_of client.now below.now client_bytes.now images.now >>= kept_tower below.now) result }
+    ensures lays { Lays (laid_of client.now below.now client_bytes.now images.now) result }
     ensures quiet { IsQuiet result }
     ensures refuses { RefusesAs (IsTowerRefusal client.now below.now) result }
 {
@@ -84,7 +83,7 @@ fn link_bytes(
 /// The kernel of the client of a tower under one name and of the levels below it under others, from the lowest up, or what is
 /// first in the way of it: all images are got, all are read, the rules of the levels are looked at and then the client's, and
 /// then each level, and last the client, is compared with the levels below it.
-#[tactic(auto, using(crate::proofs::Laying::client_missing, crate::proofs::Laying::level_missing, crate::proofs::Laying::all_laid, crate::proofs::Failing::client_fails, crate::proofs::Failing::levels_fail, crate::proofs::Failing::laying_fails, crate::proofs::Refusing::client_absent, crate::proofs::Refusing::level_absent))]
+#[tactic(auto, using(crate::proofs::Laid::client_missing, crate::proofs::Laid::level_missing, crate::proofs::Laid::all_laid, crate::proofs::Failing::client_fails, crate::proofs::Failing::levels_fail, crate::proofs::Failing::laying_fails, crate::proofs::Refusing::client_absent, crate::proofs::Refusing::level_absent))]
 pub fn link_tower<S: Store>(
     alloc: Global,
     client: &Text,
