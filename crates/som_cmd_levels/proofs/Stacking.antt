@@ -1,6 +1,8 @@
 -- Libraries that are read one after the other, each above one more.
 use Rattle.std.proofs.Common.{◌≡◌, ℕ, suc, ◌+◌, ◌<◌, ◌≤◌, false, List, [], ◌∷◌, ◌++◌, length, drop, get_or, Result, Ok, Err, refl, sym, ap, subst, ◌∙◌, append_assoc, arith}
 use Rattle.std.proofs.lemmas.List.{append-nil, drop_all}
+use Rattle.std.specs.Prelude.{IfOk}
+use Rattle.som_model.specs.Conforming.{ReleaseOk}
 use Rattle.som_model.specs.declared.program.Release.{Release}
 use Rattle.som_model.specs.Steps.{◌>>=◌}
 use Rattle.som_order.specs.Names.{name_at}
@@ -15,7 +17,7 @@ use Rattle.som_cmd_steps.proofs.ImageLaws.{stops_first}
 use Rattle.som_cmd_steps.proofs.InTurn.{next_of}
 use Rattle.som_cmd_levels.specs.declared.levels.LevelsBelow.{LevelsBelow}
 use Rattle.som_cmd_levels.specs.LevelImages.{level_read}
-use Rattle.som_cmd_levels.specs.Levels.{level_rules_kept, levels_in, levels_rules_kept, uppers_in}
+use Rattle.som_cmd_levels.specs.Levels.{AllConform, LevelsConform, level_rules_kept, levels_in, levels_rules_kept, uppers_in}
 
 -- what is left after some were read
 abbrev after : List Level → Result (List Level) Refusal → Result (List Level) Refusal
@@ -81,25 +83,43 @@ lowest_read : (names images : List (List ℕ)) (r : Release) → release_in (nam
 lowest_read names images r e = ap (λ (x : Result Release Refusal). x >>= λ r. above r (uppers_of names images)) (sym e)
 
 -- the lowest is refused
-pub lowest_stops : (names images : List (List ℕ)) (stop : CommandStop) → Follows {A = Release} (Err stop) (release_in (name_at names 0) (name_at images 0)) → Follows {A = LevelsBelow} (Err stop) (levels_in names images)
-lowest_stops names images stop f = stops_first stop (release_in (name_at names 0) (name_at images 0)) (λ r. above r (uppers_of names images)) f
+pub lowest_stops : (names images : List (List ℕ)) (n b : List ℕ) (stop : CommandStop) → n ≡ name_at names 0 → b ≡ name_at images 0 → Follows {A = Release} (Err stop) (release_in n b) → Follows {A = LevelsBelow} (Err stop) (levels_in names images)
+lowest_stops names images n b stop n_is b_is f =
+    stops_first stop (release_in (name_at names 0) (name_at images 0)) (λ r. above r (uppers_of names images)) (subst (λ (x : List ℕ). Stops stop (release_in (name_at names 0) x)) b_is (subst (λ (x : List ℕ). Stops stop (release_in x b)) n_is f))
+
+lowest_is : (names images : List (List ℕ)) (n b : List ℕ) (r : Release) → n ≡ name_at names 0 → b ≡ name_at images 0 → release_in n b ≡ Ok r → release_in (name_at names 0) (name_at images 0) ≡ Ok r
+lowest_is names images n b r n_is b_is f = subst (λ (x : List ℕ). release_in (name_at names 0) x ≡ Ok r) b_is (subst (λ (x : List ℕ). release_in x b ≡ Ok r) n_is f)
 
 -- one above it is
-pub upper_stops : (names images : List (List ℕ)) (r : Release) (stop : CommandStop) → Follows (Ok r) (release_in (name_at names 0) (name_at images 0)) → Follows {A = List Level} (Err stop) (uppers_of names images)
-    → Follows {A = LevelsBelow} (Err stop) (levels_in names images)
-upper_stops names images r stop f g = subst (Stops stop) (lowest_read names images r f) (stops_first stop (uppers_of names images) (λ ls. Ok (record { base = r; uppers = ls })) g)
+pub upper_stops : (names images ns bs : List (List ℕ)) (n b : List ℕ) (r : Release) (stop : CommandStop) → n ≡ name_at names 0 → b ≡ name_at images 0 → ns ≡ drop 1 names → bs ≡ drop 1 images → Follows (Ok r) (release_in n b)
+    → Follows {A = List Level} (Err stop) (uppers_in 1 ns bs) → Follows {A = LevelsBelow} (Err stop) (levels_in names images)
+upper_stops names images ns bs n b r stop n_is b_is ns_are bs_are f g =
+    let h : Stops stop (uppers_of names images) = subst (λ (x : List (List ℕ)). Stops stop (uppers_in 1 (drop 1 names) x)) bs_are (subst (λ (x : List (List ℕ)). Stops stop (uppers_in 1 x bs)) ns_are g) in
+    subst (Stops stop) (lowest_read names images r (lowest_is names images n b r n_is b_is f)) (stops_first stop (uppers_of names images) (λ ls. Ok (record { base = r; uppers = ls })) h)
 
 -- none is
-pub levels_read : (names images : List (List ℕ)) (r : Release) (ls : List Level) → Follows (Ok r) (release_in (name_at names 0) (name_at images 0)) → Follows (Ok ls) (uppers_of names images) → Follows (Ok (record { base = r; uppers = ls })) (levels_in names images)
-levels_read names images r ls f g = sym (lowest_read names images r f) ∙ ap (above r) g
+pub levels_read : (names images ns bs : List (List ℕ)) (n b : List ℕ) (r : Release) (ls : List Level) → n ≡ name_at names 0 → b ≡ name_at images 0 → ns ≡ drop 1 names → bs ≡ drop 1 images → Follows (Ok r) (release_in n b)
+    → Follows (Ok ls) (uppers_in 1 ns bs) → Follows (Ok (record { base = r; uppers = ls })) (levels_in names images)
+levels_read names images ns bs n b r ls n_is b_is ns_are bs_are f g =
+    let h : uppers_of names images ≡ Ok ls = subst (λ (x : List (List ℕ)). uppers_in 1 (drop 1 names) x ≡ Ok ls) bs_are (subst (λ (x : List (List ℕ)). uppers_in 1 x bs ≡ Ok ls) ns_are g) in
+    sym (lowest_read names images r (lowest_is names images n b r n_is b_is f)) ∙ ap (above r) h
 
 -- ---- rules
 
 -- the lowest breaks one
-pub lowest_broken : (names : List (List ℕ)) (below : LevelsBelow) (stop : CommandStop) → Follows {A = Unit {0}} (Err stop) (rules_kept (name_at names 0) below.base) → Follows {A = Unit {0}} (Err stop) (levels_rules_kept names below)
-lowest_broken names below stop f = stops_first stop (rules_kept (name_at names 0) below.base) (λ kept. each_passes level_rules_kept (drop 1 names) below.uppers) f
+pub lowest_broken : (names : List (List ℕ)) (n : List ℕ) (below : LevelsBelow) (stop : CommandStop) → n ≡ name_at names 0 → Follows {A = Unit {0}} (Err stop) (rules_kept n below.base) → Follows {A = Unit {0}} (Err stop) (levels_rules_kept names below)
+lowest_broken names n below stop n_is f =
+    stops_first stop (rules_kept (name_at names 0) below.base) (λ kept. each_passes level_rules_kept (drop 1 names) below.uppers) (subst (λ (x : List ℕ). Stops stop (rules_kept x below.base)) n_is f)
 
 -- it breaks none, and so it goes as with the others
-pub then_uppers : (names : List (List ℕ)) (below : LevelsBelow) (u : Unit {0}) (result : Result (Unit {0}) CommandStop) → Follows (Ok u) (rules_kept (name_at names 0) below.base) → Follows result (each_passes level_rules_kept (drop 1 names) below.uppers)
-    → Follows result (levels_rules_kept names below)
-then_uppers names below u result f g = subst (Follows result) (ap (λ (x : Result (Unit {0}) Refusal). x >>= λ kept. each_passes level_rules_kept (drop 1 names) below.uppers) (sym f)) g
+pub then_uppers : (names ns : List (List ℕ)) (n : List ℕ) (below : LevelsBelow) (ls : List Level) (u : Unit {0}) (result : Result (Unit {0}) CommandStop) → n ≡ name_at names 0 → ns ≡ drop 1 names → ls ≡ below.uppers → Follows (Ok u) (rules_kept n below.base)
+    → Follows result (each_passes level_rules_kept ns ls) → Follows result (levels_rules_kept names below)
+then_uppers names ns n below ls u result n_is ns_are ls_are f g =
+    let first : rules_kept (name_at names 0) below.base ≡ Ok u = subst (λ (x : List ℕ). rules_kept x below.base ≡ Ok u) n_is f in
+    let others : Follows result (each_passes level_rules_kept (drop 1 names) below.uppers) = subst (λ (x : List Level). Follows result (each_passes level_rules_kept (drop 1 names) x)) ls_are (subst (λ (x : List (List ℕ)). Follows result (each_passes level_rules_kept x ls)) ns_are g) in
+    subst (Follows result) (ap (λ (x : Result (Unit {0}) Refusal). x >>= λ kept. each_passes level_rules_kept (drop 1 names) below.uppers) (sym first)) others
+
+-- and all conform
+pub all_conform : (below : LevelsBelow) (ls : List Level) (result : Result (Unit {0}) CommandStop) → ls ≡ below.uppers → ReleaseOk below.base → IfOk result (λ _. AllConform ls) → IfOk result (λ _. LevelsConform below)
+all_conform below ls (Ok u) ls_are base uppers = record { base = base; uppers = subst (λ (x : List Level). AllConform x) ls_are uppers }
+all_conform below ls (Err stop) ls_are base uppers = tt

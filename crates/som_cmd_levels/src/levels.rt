@@ -3,6 +3,7 @@
 ghost use Rattle.som_cmd_levels.specs.Levels.{AreLevelsOf, AreUppers, levels_in, uppers_in};
 ghost use Rattle.som_cmd_steps.specs.Cause.{IsQuiet};
 ghost use Rattle.som_cmd_steps.specs.Steps.{Follows};
+ghost use Rattle.som_order.specs.Names.{name_at};
 ghost use Rattle.std.specs.Prelude.{IfOk, drop, length, ◌+◌, ◌≡◌, ◌≤◌};
 
 use crate::level_image::read_level;
@@ -37,17 +38,34 @@ fn read_uppers(
     Ok(uppers)
 }
 
-// All names but the first.
+/// The name of the library that stands on no other.
+pub(crate) fn base_name(names: &[Text]) -> &Text
+    requires { 1 ≤ length names.now }
+    ensures { result.now ≡ name_at names.now 0 }
+{
+    &names[0]
+}
+
+fn base_image(images: &[List<u8>]) -> &List<u8>
+    requires { 1 ≤ length images.now }
+    ensures { result.now ≡ name_at images.now 0 }
+{
+    &images[0]
+}
+
+/// The names of the libraries above it.
 pub(crate) fn upper_names(names: &[Text]) -> &[Text]
     requires { 1 ≤ length names.now }
-    ensures { result.now ≡ drop 1 names.now }
+    ensures are { result.now ≡ drop 1 names.now }
+    ensures many { length result.now + 1 ≡ length names.now }
 {
     &names[1..]
 }
 
 fn upper_images(images: &[List<u8>]) -> &[List<u8>]
     requires { 1 ≤ length images.now }
-    ensures { result.now ≡ drop 1 images.now }
+    ensures are { result.now ≡ drop 1 images.now }
+    ensures many { length result.now + 1 ≡ length images.now }
 {
     &images[1..]
 }
@@ -66,7 +84,7 @@ pub fn read_levels(
     ensures levels { IfOk result (AreLevelsOf names.now) }
     ensures quiet { IsQuiet result }
 {
-    let base = read_release(alloc, &names[0], &images[0])?;
+    let base = read_release(alloc, base_name(names), base_image(images))?;
     let uppers = read_uppers(alloc, upper_names(names), upper_images(images))?;
     Ok(LevelsBelow { base, uppers })
 }

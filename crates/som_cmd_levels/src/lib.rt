@@ -8,7 +8,7 @@ mod level_image;
 mod levels;
 mod rules;
 
-pub use breach::{level_name, refuse_level_breach};
+pub use breach::{refuse_level, refuse_level_breach};
 pub use laws::{breach_level_law, level_refusal_law, stored_level_law, tower_fault_law};
 pub use level_image::{read_level, read_upper};
 pub use levels::{LevelsBelow, read_levels};

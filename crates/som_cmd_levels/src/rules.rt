@@ -6,7 +6,7 @@ ghost use Rattle.som_cmd_steps.specs.EachImage.{each_passes};
 ghost use Rattle.som_cmd_steps.specs.Steps.{Follows};
 ghost use Rattle.std.specs.Prelude.{IfOk, length, ◌+◌, ◌≡◌};
 
-use crate::levels::{LevelsBelow, upper_names};
+use crate::levels::{LevelsBelow, base_name, upper_names};
 use som_cmd_steps::{CommandStop, look_at_program, look_at_rules};
 use som_model::Text;
 use som_towerimage::Level;
@@ -34,6 +34,6 @@ pub fn look_at_levels(alloc: Global, names: &[Text], below: &LevelsBelow) -> Res
     ensures conform { IfOk result (λ _. LevelsConform below.now) }
     ensures quiet { IsQuiet result }
 {
-    look_at_rules(alloc, &names[0], &below.base)?;
+    look_at_rules(alloc, base_name(names), &below.base)?;
     look_at_uppers(alloc, upper_names(names), below.uppers.as_slice())
 }

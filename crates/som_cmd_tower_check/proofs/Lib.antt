@@ -2,5 +2,6 @@ mod Reading
 mod Getting
 mod Refusing
 mod Promising
+mod Comparing
 pub mod CheckLaws
 pub mod CheckEndLaws

@@ -20,14 +20,14 @@ use Rattle.som_level_programs.specs.Towers.{own_interface}
 use Rattle.som_level_programs.proofs.Counted.{face_by_level, program_parents}
 use Rattle.som_level_programs.proofs.LevelsStand.{program_differs}
 use Rattle.som_flat_laws.proofs.MadeOver.{level_loads, olds_many}
-use Rattle.som_levels.specs.Flat.{IsFlat}
+use Rattle.som_levels.specs.Flat.{Flat, IsFlat}
 use Rattle.som_link_check.specs.Pairs.{ProgramCounted}
 use Rattle.som_link_limits.proofs.Classes.{program_counts}
 use Rattle.som_compat.specs.Conditions.{IsCounted}
 use Rattle.som_compat_levels.specs.Conditions.{AreComparable, AreLoadableLevels, IsWithinCounts}
 use Rattle.som_towerimage.specs.declared.level.Level.{Level}
 use Rattle.som_towerimage.specs.Spelling.{most_below}
-use Rattle.som_cmd_tower_check.specs.Libraries.{IsSoundLibrary, plain, promised}
+use Rattle.som_cmd_tower_check.specs.Libraries.{IsSoundLibrary, own_under, plain, promised}
 
 -- ---- lists
 
@@ -134,3 +134,12 @@ comparable o n so sn alike = record {
   old = loadable o so;
   new = loadable n sn;
 }
+
+-- ---- what the code makes of one
+
+pub promised_so : (l : Level) (m : Flat) (below is : List Interface) (own : Interface) → m ≡ record { sizes = l.sizes; client = l.client; base = l.program.base } → below ≡ levels_below m.sizes m.client m.base
+    → own ≡ own_under (level_change m.sizes m.client m.base) l.program → is ≡ below ++ own ∷ [] → is ≡ promised l
+promised_so l m below is own m_is below_is own_is is_is =
+    is_is
+    ∙ ap (λ (z : List Interface). z ++ own ∷ []) (below_is ∙ ap (λ (f : Flat). levels_below f.sizes f.client f.base) m_is)
+    ∙ ap (λ (i : Interface). levels_below l.sizes l.client l.program.base ++ i ∷ []) (own_is ∙ ap (λ (f : Flat). own_under (level_change f.sizes f.client f.base) l.program) m_is)

@@ -2,13 +2,11 @@
 
 ghost use Rattle.som_cmd_steps.specs.Cause.{IsQuiet};
 ghost use Rattle.som_cmd_steps.specs.Steps.{Follows};
-ghost use Rattle.som_cmd_tower_check.specs.Libraries.{IsSoundLibrary, promised};
+ghost use Rattle.som_cmd_tower_check.specs.Libraries.{IsSoundLibrary, own_under, promised};
 ghost use Rattle.som_cmd_tower_check.specs.TowerCheckAnswer.{accepted_or, first_lost};
 ghost use Rattle.som_level_programs.specs.ByLevels.{level_change};
 ghost use Rattle.som_levels.specs.Flat.{IsFlat};
-ghost use Rattle.som_model.specs.declared.class.ClassDecl.{ClassDecl};
-ghost use Rattle.som_rekey_laws.specs.Rekeying.{rekey_face as new_face};
-ghost use Rattle.std.specs.Prelude.{IfOk, length, map, ◌≡◌};
+ghost use Rattle.std.specs.Prelude.{IfOk, length, ◌≡◌};
 
 use som_cmd_levels::refuse_level_breach;
 use som_cmd_steps::{CommandStop, line_of};
@@ -25,7 +23,7 @@ fn own_interface(
     modules: &LevelModules,
     program: &ClientProgram,
 ) -> Result<Interface, NoMemory>
-    ensures { IfOk result (λ i. i.classes ≡ map (λ (d : ClassDecl). new_face (level_change modules.now.sizes modules.now.client modules.now.base) d.face) program.now.classes) }
+    ensures { IfOk result (λ i. i ≡ own_under (level_change modules.now.sizes modules.now.client modules.now.base) program.now) }
 {
     let mut classes = List::new(alloc);
     for class in program.classes.as_slice() {
@@ -35,6 +33,7 @@ fn own_interface(
 }
 
 // What a library promises, with the levels below it.
+#[tactic(auto, using(crate::proofs::Promising::promised_so))]
 fn promised(alloc: Global, level: &Level) -> Result<List<Interface>, NoMemory>
     requires { IsFlat level.now.sizes level.now.program.base }
     ensures { IfOk result (λ is. is ≡ promised level.now) }
@@ -46,6 +45,7 @@ fn promised(alloc: Global, level: &Level) -> Result<List<Interface>, NoMemory>
 }
 
 /// The line that accepts a newer library, where it keeps all that the older one promises.
+#[tactic(auto, using(crate::proofs::Promising::is_flat, crate::proofs::Comparing::may_compare, crate::proofs::Comparing::accepts_so, crate::proofs::Comparing::refuses_so))]
 pub(crate) fn compare(
     alloc: Global,
     name: &Text,
