@@ -1,10 +1,10 @@
 -- A client and the levels below it that are read and looked at, step by step.
-use Rattle.std.proofs.Common.{◌≡◌, ◌+◌, ◌≤◌, ℕ, Bool, true, false, List, length, Some, Result, Ok, Err, sym, ap, subst, ◌∙◌, slice_get, arith}
+use Rattle.std.proofs.Common.{◌≡◌, ◌+◌, ◌≤◌, ℕ, Bool, true, false, List, length, Result, Ok, Err, sym, ap, subst, ◌∙◌, arith}
 use Rattle.som_model.specs.Conforming.{ProgramOk}
 use Rattle.som_model.specs.Steps.{◌>>=◌}
 use Rattle.som_link_limits.proofs.Classes.{program_counts, release_counts}
 use Rattle.som_towerimage.specs.declared.level.Level.{Level}
-use Rattle.som_tower.specs.Towers.{AreLibraries, IsSound, IsTowerOf, IsUpper}
+use Rattle.som_tower.specs.Towers.{AreLibraries, IsSound, IsTowerOf}
 use Rattle.som_cmd_steps.specs.declared.stop.Refusal.{Refusal}
 use Rattle.som_cmd_steps.specs.declared.stop.CommandStop.{CommandStop}
 use Rattle.som_cmd_steps.specs.ImageSteps.{program_rules_kept}

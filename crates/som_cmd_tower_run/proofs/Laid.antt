@@ -1,7 +1,6 @@
 -- A tower that is laid out, or what is in the way of it.
 use Rattle.std.proofs.Common.{◌≡◌, ◌+◌, ◌<◌, ◌++◌, ℕ, zero, suc, List, [], ◌∷◌, length, Option, Some, None, Result, Ok, Err, refl, sym, ap, subst, ◌∙◌, inl, inr, arith}
 use Rattle.som_model.specs.Bytes.{Files}
-use Rattle.som_model.specs.Compatible.{CompatBreach}
 use Rattle.som_model.specs.Kernel.{kernel}
 use Rattle.som_model.specs.Lists.{Mem}
 use Rattle.som_model.specs.Steps.{◌>>=◌}
@@ -27,7 +26,7 @@ use Rattle.som_cmd_levels.specs.Comparing.{level_kept_or}
 use Rattle.som_cmd_levels.specs.Refusals.{IsKeptRefusal}
 use Rattle.som_cmd_tower_run.specs.declared.tower.Tower.{Tower}
 use Rattle.som_cmd_tower_run.specs.Kernels.{Lays, LaysTold}
-use Rattle.som_cmd_tower_run.specs.Steps.{first_broken, kept_tower, tower_in, tower_of}
+use Rattle.som_cmd_tower_run.specs.Steps.{first_broken, kept_tower, laid_of, tower_in, tower_of}
 use Rattle.som_cmd_tower_run.proofs.Breaking.{BreachesAtLevels, Found, found_low}
 
 abbrev Read : Type 0
@@ -85,11 +84,11 @@ laid below t k none classes main = (t, ap (λ (o : Option Found). level_kept_or 
 
 -- ---- of bytes
 
-pub not_checked : (c : List ℕ) (below : List (List ℕ)) (cb : List ℕ) (bs : List (List ℕ)) (stop : CommandStop) → Follows {A = Tower} (Err stop) (tower_of c below cb bs) → Lays (tower_of c below cb bs >>= kept_tower below) (Err stop)
+pub not_checked : (c : List ℕ) (below : List (List ℕ)) (cb : List ℕ) (bs : List (List ℕ)) (stop : CommandStop) → Follows {A = Tower} (Err stop) (tower_of c below cb bs) → Lays (laid_of c below cb bs) (Err stop)
 not_checked c below cb bs stop f = stops_first stop (tower_of c below cb bs) (kept_tower below) f
 
 pub then_laid : (c : List ℕ) (below : List (List ℕ)) (cb : List ℕ) (bs : List (List ℕ)) (t : Tower) (result : Result Linkage CommandStop) → Follows (Ok t) (tower_of c below cb bs) → Lays (kept_tower below t) result
-    → Lays (tower_of c below cb bs >>= kept_tower below) result
+    → Lays (laid_of c below cb bs) result
 then_laid c below cb bs t result f lays = subst (λ (steps : Read). Lays steps result) (ap (λ (x : Read). x >>= kept_tower below) (sym f)) lays
 
 -- ---- of what a store has
@@ -119,7 +118,7 @@ level_missing (Some told) now c below cb stop same f g =
 
 -- all are
 pub all_laid : (files now : Option Files) (c : List ℕ) (below : List (List ℕ)) (cb : List ℕ) (bs : List (List ℕ)) (result : Result Linkage CommandStop) → now ≡ files → FollowsTold files (Ok cb) (file_of c)
-    → FollowsTold now (Ok bs) (images_in below) → Lays (tower_of c below cb bs >>= kept_tower below) result → LaysTold files c below result
+    → FollowsTold now (Ok bs) (images_in below) → Lays (laid_of c below cb bs) result → LaysTold files c below result
 all_laid None now c below cb bs result same f g lays = tt
 all_laid (Some told) now c below cb bs result same f g lays =
     subst (λ (steps : Read). Lays steps result)

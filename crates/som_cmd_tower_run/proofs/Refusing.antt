@@ -1,5 +1,5 @@
 -- What is refused, whatever the store tells.
-use Rattle.std.proofs.Common.{◌≡◌, ◌≤◌, ℕ, Bool, true, List, ◌∷◌, length, Option, Some, None, Result, Ok, Err, refl, sym, inl, inr}
+use Rattle.std.proofs.Common.{◌≡◌, ◌≤◌, ℕ, Bool, true, List, ◌∷◌, length, Option, Some, None, Result, Ok, Err, refl, inl, inr}
 use Rattle.som_model.specs.Conforming.{program_breach}
 use Rattle.som_model.specs.Rules.{RuleBreach}
 use Rattle.som_class_kernel.specs.Linked.{Linkage}

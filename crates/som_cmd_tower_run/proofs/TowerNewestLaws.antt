@@ -2,7 +2,6 @@
 use Rattle.std.proofs.Common.{◌≡◌, ◌≢◌, ◌⊎◌, ◌+◌, ◌≤◌, ◌++◌, ℕ, suc, Bool, true, false, true≢false, List, [], ◌∷◌, drop, length, map, Option, Some, None, inl, inr, refl, sym, ap, subst, ◌∙◌, arith}
 use Rattle.std.specs.Prelude.{sum}
 use Rattle.std.proofs.lemmas.List.{length-append, length-map}
-use Rattle.som_model.specs.declared.program.ClientProgram.{ClientProgram}
 use Rattle.som_model.specs.declared.program.Interface.{Interface}
 use Rattle.som_model.specs.declared.program.Release.{Release}
 use Rattle.som_model.specs.Bytes.{Files}
@@ -12,13 +11,11 @@ use Rattle.som_model.specs.Conforming.{ProgramOk, ReleaseOk}
 use Rattle.som_model.specs.Images.{library_image}
 use Rattle.som_model.specs.Kernel.{kernel}
 use Rattle.som_model.specs.Lists.{Mem}
-use Rattle.som_model.specs.Loads.{FacesLoad, IsOrdered}
-use Rattle.som_model_laws.proofs.Lists.{mem_map}
+use Rattle.som_model.specs.Loads.{IsOrdered}
 use Rattle.som_model_laws.proofs.Metas.{meta_of_parent}
 use Rattle.som_release_laws.specs.Releasing.{HaveParents, stacked}
 use Rattle.som_release_laws.proofs.Along.{tower_loadable}
 use Rattle.som_semantics.specs.RunText.{no_trace, run_text}
-use Rattle.som_level_laws.specs.Levels.{level_classes}
 use Rattle.som_level_laws.proofs.Along.{at_end}
 use Rattle.som_level_programs.specs.Towers.{AreStacked, LevelProgram, StandsOn, by_level, own_interface}
 use Rattle.som_level_programs.proofs.Counted.{program_parents, release_parents}

@@ -1,5 +1,5 @@
 -- How a run of a tower ends whose images a store holds.
-use Rattle.std.proofs.Common.{◌≡◌, ◌==◌, ◌≤◌, ℕ, suc, Bool, true, false, not, if◌then◌else◌, List, [], ◌∷◌, drop, length, Option, Some, None, Result, Ok, Err, refl, sym, ap, subst, ◌∙◌, arith}
+use Rattle.std.proofs.Common.{◌≡◌, ◌≤◌, ℕ, suc, Bool, true, false, not, if◌then◌else◌, List, [], ◌∷◌, drop, length, Option, Some, None, Result, Ok, Err, refl, sym, ap, subst, ◌∙◌, arith}
 use Rattle.std.specs.FinMap.{get}
 use Rattle.std.proofs.lemmas.Bool.{eq-eqb}
 use Rattle.som_model.specs.declared.program.Release.{Release}
@@ -31,7 +31,7 @@ use Rattle.som_cmd_levels.specs.declared.levels.LevelsBelow.{LevelsBelow}
 use Rattle.som_cmd_levels.specs.Comparing.{level_kept_or}
 use Rattle.som_cmd_levels.specs.LevelImages.{in_place, is_kind, level_read, of_kind}
 use Rattle.som_cmd_levels.specs.Levels.{level_rules_kept, levels_in, levels_rules_kept, uppers_in}
-use Rattle.som_cmd_levels.specs.StoredLevels.{AreLevelsUnder, HoldsLevel, IsLevelUnder}
+use Rattle.som_cmd_levels.specs.StoredLevels.{AreLevelsUnder, HoldsLevel}
 use Rattle.som_cmd_levels.proofs.Stored.{stored_read}
 use Rattle.som_cmd_run.specs.RunAnswer.{ran}
 use Rattle.som_cmd_tower_run.specs.declared.tower.Tower.{Tower}
@@ -86,8 +86,8 @@ module _ (files : Files) where
   uppers_read levels [] (l ∷ ls) u s = absurd u
   uppers_read levels (n ∷ ns) [] u s = absurd u
   uppers_read levels (n ∷ ns) (l ∷ ls) u s =
-      ap (λ (x : Result Level Refusal). x >>= λ m. uppers_in (suc levels) ns (bytes_of ns ls u.1) >>= λ ms. Ok (m ∷ ms)) (one_read levels false n l u.0.holds s.0 s.1.0)
-      ∙ ap (λ (x : Result (List Level) Refusal). x >>= λ ms. Ok (l ∷ ms)) (uppers_read (suc levels) ns ls u.1 s.1.1)
+      ap (λ (x : Result Level Refusal). x >>= λ m. uppers_in (suc levels) ns (bytes_of ns ls u.1) >>= λ ms. Ok (m ∷ ms)) (one_read levels false n l u.0.holds s.0 s.1)
+      ∙ ap (λ (x : Result (List Level) Refusal). x >>= λ ms. Ok (l ∷ ms)) (uppers_read (suc levels) ns ls u.1 s.2)
 
   uppers_conform : (ns : List (List ℕ)) (ls : List Level) → AreLevelsUnder files ns ls → each_passes level_rules_kept ns ls ≡ Ok tt
   uppers_conform [] [] u = refl

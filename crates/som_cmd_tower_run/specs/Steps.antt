@@ -40,6 +40,10 @@ kept_tower below t = do
   kept ← level_kept_or below (first_broken t)
   Ok t
 
+-- all steps from the bytes on
+abbrev pub laid_of : List ℕ → List (List ℕ) → List ℕ → List (List ℕ) → Result Tower Refusal
+laid_of client below client_bytes images = tower_of client below client_bytes images >>= kept_tower below
+
 -- all steps before main
 abbrev pub laid_in : List ℕ → List (List ℕ) → Files → Result Tower Refusal
 laid_in client below files = tower_in client below files >>= kept_tower below

@@ -8,10 +8,9 @@ ghost use Rattle.som_cmd_steps.specs.Lines.{not_kept};
 ghost use Rattle.som_cmd_steps.specs.Refusing.{RefusesAs};
 ghost use Rattle.som_cmd_tower_run.specs.Kernels.{Lays, LaysTold};
 ghost use Rattle.som_cmd_tower_run.specs.Refusals.{IsTowerRefusal};
-ghost use Rattle.som_cmd_tower_run.specs.Steps.{kept_tower, tower_of};
+ghost use Rattle.som_cmd_tower_run.specs.Steps.{kept_tower, laid_of};
 ghost use Rattle.som_compat_levels.specs.Told.{IsTold};
 ghost use Rattle.som_model.specs.Compatible.{CompatBreach};
-ghost use Rattle.som_model.specs.Steps.{◌>>=◌};
 ghost use Rattle.som_order.specs.Names.{name_at};
 ghost use Rattle.som_tower.specs.Towers.{IsTowerOf};
 ghost use Rattle.std.specs.Prelude.{Some, length, ℕ, ◌+◌, ◌<◌, ◌∷◌, ◌≡◌, ◌≤◌};
@@ -73,7 +72,7 @@ fn link_bytes(
     requires some { 1 ≤ length below.now }
     requires few { length below.now ≤ 8 }
     requires long { length images.now ≡ length below.now }
-    ensures lays { Lays (tower_of client.now below.now client_bytes.now images.now >>= kept_tower below.now) result }
+    ensures lays { Lays (laid_of client.now below.now client_bytes.now images.now) result }
     ensures quiet { IsQuiet result }
     ensures refuses { RefusesAs (IsTowerRefusal client.now below.now) result }
 {

@@ -4,8 +4,15 @@ use som_cmd_levels::LevelsBelow;
 use som_towerimage::Level;
 
 /// The levels of a tower, from the lowest up, and the client above them.
-#[derive(Drop)]
 pub struct Tower {
     pub levels: LevelsBelow,
     pub client: Level,
+}
+
+impl Drop for Tower {
+    fn drop(self) {
+        let Tower { levels, client } = self;
+        drop(client);
+        drop(levels);
+    }
 }
