@@ -58,10 +58,6 @@ again_told R keeps before other (c ∷ cs) e =
     ∙ ap (λ z. s1 other (R c) ++ z) (again_told R keeps (before ++ c ∷ []) (other ++ R c ∷ []) cs
     (map-append name_of other (R c ∷ []) ∙ ap (λ z. z ++ name_of (R c) ∷ []) e ∙ ap (λ z. map name_of before ++ z ∷ []) (keeps c) ∙ sym (map-append name_of before (c ∷ []))))
 
--- what is asked after the kernel's classes is asked of them too
-pub after_kernel : (cs : List Class) → first (named_again [] (kernel ++ cs)) ≡ first (named_again kernel cs)
-after_kernel cs = refl
-
 module _ (is : List Interface) (f : FacesLoad (level_classes is)) where
   abbrev cs : List Class
   cs = level_classes is
@@ -148,9 +144,3 @@ told_flat is all i (Err (faults.Rule level broken)) f e g none t =
     level_told is f (ap (λ z. first (named_again [] z)) (sym g) ∙ none) (told broken) level (ap (λ z. faces_breach (interface_classes z)) (sym e) ∙ t.0)
     (λ m. subst (λ z. IsLevelOf z broken.class level) g (t.1 (subst (λ z. Mem broken.class (map name_of z)) (sym g) m)))
 told_flat is all i (Err faults.NoMemory) f e g none t = tt
-
--- a name that two classes have is told with its level
-pub told_names : (is : List Interface) (all : List Class) (e : FlatFault) → all ≡ all_levels is → TellsFlat (first (named_again [] all)) (Err e) → TellsFlat (flat_breach is) (Err e)
-told_names is all (faults.Rule level broken) g t =
-    ap (λ z. or_else z (first (flat_map (introduced_again is) (level_classes is)))) (ap (λ z. first (named_again [] z)) (sym g) ∙ t)
-told_names is all faults.NoMemory g t = tt

@@ -70,11 +70,10 @@ level_within client base ss p b few s =
 
 -- ---- the levels below
 
-a_block : Block → Result Block BodyBreach
+abbrev a_block : Block → Result Block BodyBreach
 a_block x = Ok x
 
 no_statements : (b : Block) → a_block (record { statements = [] }) ≡ a_block b → b.statements ≡ []
-unfolding a_block
 no_statements b e = let same : record { statements = [] } ≡ b = cc in ap (λ (z : Block). z.statements) (sym same)
 
 main_left : (client : Bool) (base : Interface) (ss : List Source) (p : ClientProgram) → Stands client base ss p → client ≡ false → p.main.statements ≡ []
@@ -96,11 +95,7 @@ level_fits sizes client base ss p a s =
 
 -- ---- what the code builds
 
-pub for_client : (client : Bool) (base : Interface) (ts : Trees) (r : Result ClientProgram Refused) → client ≡ true → (main : MainFile) × (ts.mains ≡ main ∷ []) × Answers (program_of base ts main) r
-    → (main : MainFile) × IsMainOf client ts main × Answers (program_of base ts main) r
-for_client true base ts r e a = a
-for_client false base ts r e a = absurd (cc)
-
+-- a library's main is empty
 pub for_library : (client : Bool) (base : Interface) (ts : Trees) (r : Result ClientProgram Refused) → client ≡ false → Answers (program_of base ts empty_main) r
     → (main : MainFile) × IsMainOf client ts main × Answers (program_of base ts main) r
 for_library true base ts r e a = absurd (cc)

@@ -16,6 +16,7 @@ use std::alloc::Global;
 /// The tower image of a library above levels of these sizes, or of a client of these, or what is first wrong with its
 /// texts: with the first that can't be read, and else the first rule that they break or limit that they pass. One of a
 /// client's texts is a main, and none of a library's.
+#[tactic(auto, using(crate::proofs::LevelLaws::level_none_read, crate::proofs::LevelTrees::client_mains))]
 pub fn compile_level(
     alloc: Global,
     base: &Interface,
