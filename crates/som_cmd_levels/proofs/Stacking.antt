@@ -1,6 +1,8 @@
 -- Libraries that are read one after the other, each above one more.
 use Rattle.std.proofs.Common.{◌≡◌, ℕ, suc, ◌+◌, ◌<◌, ◌≤◌, false, List, [], ◌∷◌, ◌++◌, length, drop, get_or, Result, Ok, Err, refl, sym, ap, subst, ◌∙◌, append_assoc, arith}
 use Rattle.std.proofs.lemmas.List.{append-nil, drop_all}
+use Rattle.std.specs.Prelude.{IfOk}
+use Rattle.som_model.specs.Conforming.{ReleaseOk}
 use Rattle.som_model.specs.declared.program.Release.{Release}
 use Rattle.som_model.specs.Steps.{◌>>=◌}
 use Rattle.som_order.specs.Names.{name_at}
@@ -15,7 +17,7 @@ use Rattle.som_cmd_steps.proofs.ImageLaws.{stops_first}
 use Rattle.som_cmd_steps.proofs.InTurn.{next_of}
 use Rattle.som_cmd_levels.specs.declared.levels.LevelsBelow.{LevelsBelow}
 use Rattle.som_cmd_levels.specs.LevelImages.{level_read}
-use Rattle.som_cmd_levels.specs.Levels.{level_rules_kept, levels_in, levels_rules_kept, uppers_in}
+use Rattle.som_cmd_levels.specs.Levels.{AllConform, LevelsConform, level_rules_kept, levels_in, levels_rules_kept, uppers_in}
 
 -- what is left after some were read
 abbrev after : List Level → Result (List Level) Refusal → Result (List Level) Refusal
@@ -116,3 +118,8 @@ then_uppers names ns n below ls u result n_is ns_are ls_are f g =
     let first : rules_kept (name_at names 0) below.base ≡ Ok u = subst (λ (x : List ℕ). rules_kept x below.base ≡ Ok u) n_is f in
     let others : Follows result (each_passes level_rules_kept (drop 1 names) below.uppers) = subst (λ (x : List Level). Follows result (each_passes level_rules_kept (drop 1 names) x)) ls_are (subst (λ (x : List (List ℕ)). Follows result (each_passes level_rules_kept x ls)) ns_are g) in
     subst (Follows result) (ap (λ (x : Result (Unit {0}) Refusal). x >>= λ kept. each_passes level_rules_kept (drop 1 names) below.uppers) (sym first)) others
+
+-- and all conform
+pub all_conform : (below : LevelsBelow) (ls : List Level) (result : Result (Unit {0}) CommandStop) → ls ≡ below.uppers → ReleaseOk below.base → IfOk result (λ _. AllConform ls) → IfOk result (λ _. LevelsConform below)
+all_conform below ls (Ok u) ls_are base uppers = record { base = base; uppers = subst (λ (x : List Level). AllConform x) ls_are uppers }
+all_conform below ls (Err stop) ls_are base uppers = tt

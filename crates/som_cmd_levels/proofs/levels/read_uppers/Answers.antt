@@ -1,6 +1,6 @@
 use Rattle.std.proofs.Common.{ℕ, ◌+◌, ◌<◌, ◌≡◌, ◌++◌, ◌∷◌, [], false, length, length-append, subst, arith}
 use Rattle.som_towerimage.specs.declared.level.Level.{Level}
-use Rattle.som_cmd_levels.specs.Levels.{AreUppers, IsLevelAt}
+use Rattle.som_cmd_levels.specs.Levels.{IsLevelAt}
 use Rattle.som_cmd_levels.proofs.Lists.{one_more}
 use Rattle.som_cmd_levels.proofs.Stacking.{read_more}
 use Rattle.som_cmd_levels.proofs.levels.read_uppers.Goals as goal
