@@ -44,7 +44,7 @@ fn compare_pair(rt: &HostRuntime, names: &[&[u8]]) -> Result<(), Refused> {
     }
 }
 
-// Prints why there is no other answer, where that is an answer.
+// Prints what is told where there is no other answer.
 fn tell_end(rt: &HostRuntime, outcome: Result<(), Refused>) -> Result<(), TowerFault> {
     match outcome {
         Ok(_) => Ok(()),

@@ -1,7 +1,5 @@
 //! A tower by the files of its images: they are read, and then held to the rules.
 
-ghost use Rattle.som_model.specs.Conforming.{ProgramOk, ReleaseOk};
-ghost use Rattle.som_link_check.specs.Pairs.{ReleaseCounted};
 ghost use Rattle.som_test_towers.specs.Reading.{AllConform, AreRead, IsReadTower};
 ghost use Rattle.som_tower.specs.Towers.{IsTowerOf};
 ghost use Rattle.std.specs.Prelude.{◌≡◌, IfOk, length};
