@@ -1,0 +1,10 @@
+use Rattle.std.proofs.Common.{refl}
+use Rattle.som_test_towers.proofs.reading.read_library.Goals as goal
+
+pub returns : goal.returns
+returns c = record {
+  counted = c.in_ok-level.ensures.counted;
+  fits = c.in_ok-level.ensures.fits;
+  levels = refl;
+  kind = c.in_ok-has_place.ensures.kind;
+}
