@@ -10,11 +10,12 @@ use Rattle.som_level_laws.specs.Levels.{first_level_break}
 use Rattle.som_level_programs.specs.ByLevels.{levels_below}
 use Rattle.som_level_programs.specs.Towers.{LevelProgram, own_interface}
 use Rattle.som_flat_laws.proofs.MadeOver.{olds_many}
-use Rattle.som_compat_levels.specs.declared.breach.LevelBreach.{LevelBreach}
+use Rattle.som_compat_levels.specs.declared.breach.LevelFault.{LevelFault}
 use Rattle.som_compat_levels.specs.declared.breach.LevelFault.TheVariants as faults
 use Rattle.som_towerimage.specs.declared.level.Level.{Level}
 use Rattle.som_tower.specs.Towers.{IsTowerOf, TellsTower, plain, programs_above, tower_break}
 use Rattle.som_cmd_tower_run.specs.declared.tower.Tower.{Tower}
+use Rattle.som_cmd_tower_run.specs.Faults.{IsWithin}
 use Rattle.som_cmd_tower_run.specs.Steps.{first_broken}
 
 abbrev pub Found : Type 0
@@ -68,6 +69,7 @@ module _ (below : List (List ℕ)) (t : Tower) (is : IsTowerOf t.levels.base t.l
   pub found_low : BreachesAtLevels → (found : Found) → first_broken t ≡ Some found → found.0 < length below
   found_low law found e = break_low law (length below) (interface_of t.levels.base ∷ []) (programs_above t.levels.uppers t.client) all_above found e
 
-pub breach_low : BreachesAtLevels → (A : Type 0) (below : List (List ℕ)) (t : Tower) (b : LevelBreach) → IsTowerOf t.levels.base t.levels.uppers t.client → length t.levels.uppers + 1 ≡ length below → TellsTower {A = A} (first_broken t) (Err (faults.Breach b))
-    → b.level < length below
-breach_low law A below t b is many tells = let low = found_low below t is many law tells.0 tells.1 in let same = tells.2.level in omega (arith, low, same)
+pub fault_low : BreachesAtLevels → (A : Type 0) (below : List (List ℕ)) (t : Tower) (fault : LevelFault) → IsTowerOf t.levels.base t.levels.uppers t.client → length t.levels.uppers + 1 ≡ length below → TellsTower {A = A} (first_broken t) (Err fault)
+    → IsWithin (length below) fault
+fault_low law A below t (faults.Breach b) is many tells = let low = found_low below t is many law tells.0 tells.1 in let same = tells.2.level in omega (arith, low, same)
+fault_low law A below t faults.NoMemory is many tells = tt

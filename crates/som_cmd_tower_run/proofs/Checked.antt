@@ -45,35 +45,29 @@ module _ (c : List ℕ) (below : List (List ℕ)) (cb : List ℕ) (bs : List (Li
   with_rules : (t : Level) (ls : LevelsBelow) (u : Unit {0}) → level_read (length below) true c cb ≡ Ok t → levels_in below bs ≡ Ok ls → levels_rules_kept below ls ≡ Ok u → finished c ls t ≡ tower_of c below cb bs
   with_rules t ls u f g h = ap (λ (x : Passed). x >>= λ rules. finished c ls t) (sym h) ∙ with_levels t ls f g
 
--- a client that was read as one above as many levels as there are names
-named : {c : List ℕ} {cb : List ℕ} {n : ℕ} {below : List (List ℕ)} (result : Result Level CommandStop) → n ≡ length below → Follows result (level_read n true c cb) → Follows result (level_read (length below) true c cb)
-named {c} {cb} result many f = subst (λ (m : ℕ). Follows result (level_read m true c cb)) many f
-
 -- the client can't be read, or stands at the wrong place
-pub client_unread : (c : List ℕ) (below : List (List ℕ)) (cb : List ℕ) (bs : List (List ℕ)) (n : ℕ) (stop : CommandStop) → n ≡ length below → Follows {A = Level} (Err stop) (level_read n true c cb) → Follows {A = Tower} (Err stop) (tower_of c below cb bs)
-client_unread c below cb bs n stop many f = stops_first stop (level_read (length below) true c cb) (leveled c below bs) (named {c} {cb} {n} {below} (Err stop) many f)
+pub client_unread : (c : List ℕ) (below : List (List ℕ)) (cb : List ℕ) (bs : List (List ℕ)) (stop : CommandStop) → Follows {A = Level} (Err stop) (level_read (length below) true c cb) → Follows {A = Tower} (Err stop) (tower_of c below cb bs)
+client_unread c below cb bs stop f = stops_first stop (level_read (length below) true c cb) (leveled c below bs) f
 
 -- a level can't, or does
-pub level_unread : (c : List ℕ) (below : List (List ℕ)) (cb : List ℕ) (bs : List (List ℕ)) (n : ℕ) (t : Level) (stop : CommandStop) → n ≡ length below → Follows (Ok t) (level_read n true c cb) → Follows {A = LevelsBelow} (Err stop) (levels_in below bs)
+pub level_unread : (c : List ℕ) (below : List (List ℕ)) (cb : List ℕ) (bs : List (List ℕ)) (t : Level) (stop : CommandStop) → Follows (Ok t) (level_read (length below) true c cb) → Follows {A = LevelsBelow} (Err stop) (levels_in below bs)
     → Follows {A = Tower} (Err stop) (tower_of c below cb bs)
-level_unread c below cb bs n t stop many f g = subst (Stops stop) (with_client c below cb bs t (named {c} {cb} {n} {below} (Ok t) many f)) (stops_first stop (levels_in below bs) (ruled c below t) g)
+level_unread c below cb bs t stop f g = subst (Stops stop) (with_client c below cb bs t f) (stops_first stop (levels_in below bs) (ruled c below t) g)
 
 -- a level breaks a rule
-pub level_broken : (c : List ℕ) (below : List (List ℕ)) (cb : List ℕ) (bs : List (List ℕ)) (n : ℕ) (t : Level) (ls : LevelsBelow) (stop : CommandStop) → n ≡ length below → Follows (Ok t) (level_read n true c cb) → Follows (Ok ls) (levels_in below bs)
+pub level_broken : (c : List ℕ) (below : List (List ℕ)) (cb : List ℕ) (bs : List (List ℕ)) (t : Level) (ls : LevelsBelow) (stop : CommandStop) → Follows (Ok t) (level_read (length below) true c cb) → Follows (Ok ls) (levels_in below bs)
     → Follows {A = Unit {0}} (Err stop) (levels_rules_kept below ls) → Follows {A = Tower} (Err stop) (tower_of c below cb bs)
-level_broken c below cb bs n t ls stop many f g h =
-    subst (Stops stop) (with_levels c below cb bs t ls (named {c} {cb} {n} {below} (Ok t) many f) g) (stops_first stop (levels_rules_kept below ls) (λ (u : Unit {0}). finished c ls t) h)
+level_broken c below cb bs t ls stop f g h = subst (Stops stop) (with_levels c below cb bs t ls f g) (stops_first stop (levels_rules_kept below ls) (λ (u : Unit {0}). finished c ls t) h)
 
 -- the client does
-pub client_broken : (c : List ℕ) (below : List (List ℕ)) (cb : List ℕ) (bs : List (List ℕ)) (n : ℕ) (t : Level) (ls : LevelsBelow) (u : Unit {0}) (stop : CommandStop) → n ≡ length below → Follows (Ok t) (level_read n true c cb) → Follows (Ok ls) (levels_in below bs)
+pub client_broken : (c : List ℕ) (below : List (List ℕ)) (cb : List ℕ) (bs : List (List ℕ)) (t : Level) (ls : LevelsBelow) (u : Unit {0}) (stop : CommandStop) → Follows (Ok t) (level_read (length below) true c cb) → Follows (Ok ls) (levels_in below bs)
     → Follows (Ok u) (levels_rules_kept below ls) → Follows {A = Unit {0}} (Err stop) (program_rules_kept c t.program) → Follows {A = Tower} (Err stop) (tower_of c below cb bs)
-client_broken c below cb bs n t ls u stop many f g h i =
-    subst (Stops stop) (with_rules c below cb bs t ls u (named {c} {cb} {n} {below} (Ok t) many f) g h) (stops_first stop (program_rules_kept c t.program) (λ (v : Unit {0}). Ok (tower ls t)) i)
+client_broken c below cb bs t ls u stop f g h i = subst (Stops stop) (with_rules c below cb bs t ls u f g h) (stops_first stop (program_rules_kept c t.program) (λ (v : Unit {0}). Ok (tower ls t)) i)
 
 -- nothing is in the way
-pub all_checked : (c : List ℕ) (below : List (List ℕ)) (cb : List ℕ) (bs : List (List ℕ)) (n : ℕ) (t : Level) (ls : LevelsBelow) (u v : Unit {0}) → n ≡ length below → Follows (Ok t) (level_read n true c cb) → Follows (Ok ls) (levels_in below bs)
+pub all_checked : (c : List ℕ) (below : List (List ℕ)) (cb : List ℕ) (bs : List (List ℕ)) (t : Level) (ls : LevelsBelow) (u v : Unit {0}) → Follows (Ok t) (level_read (length below) true c cb) → Follows (Ok ls) (levels_in below bs)
     → Follows (Ok u) (levels_rules_kept below ls) → Follows (Ok v) (program_rules_kept c t.program) → Follows (Ok (tower ls t)) (tower_of c below cb bs)
-all_checked c below cb bs n t ls u v many f g h i = sym (with_rules c below cb bs t ls u (named {c} {cb} {n} {below} (Ok t) many f) g h) ∙ ap (λ (x : Passed). x >>= λ own. Ok (tower ls t)) i
+all_checked c below cb bs t ls u v f g h i = sym (with_rules c below cb bs t ls u f g h) ∙ ap (λ (x : Passed). x >>= λ own. Ok (tower ls t)) i
 
 -- ---- what was read and looked at is a tower
 
@@ -88,10 +82,10 @@ libraries_are below ls few of ok = record {
   few = (let many = of.many in omega (arith, many, few));
 }
 
-pub is_tower : (below : List (List ℕ)) (n : ℕ) (ls : LevelsBelow) (t : Level) → length below ≤ 8 → n ≡ length below → AreLevelsOf below ls → LevelsConform ls → IsLevelAt n true t → ProgramOk t.program → IsTowerOf ls.base ls.uppers t
-is_tower below n ls t few count of ok at conforms = record {
+pub is_tower : (below : List (List ℕ)) (ls : LevelsBelow) (t : Level) → length below ≤ 8 → AreLevelsOf below ls → LevelsConform ls → IsLevelAt (length below) true t → ProgramOk t.program → IsTowerOf ls.base ls.uppers t
+is_tower below ls t few of ok at conforms = record {
   libraries = libraries_are below ls few of ok;
-  sound = level_sound n true t at conforms;
+  sound = level_sound (length below) true t at conforms;
   is_client = at.kind;
-  levels = (let m = at.levels in let many = of.many in omega (arith, m, many, count));
+  levels = (let n = at.levels in let many = of.many in omega (arith, n, many));
 }

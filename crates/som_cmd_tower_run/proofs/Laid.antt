@@ -7,24 +7,21 @@ use Rattle.som_model.specs.Steps.{◌>>=◌}
 use Rattle.som_level_programs.specs.ByLevels.{main_by_level}
 use Rattle.som_class_kernel.specs.Linked.{Linkage}
 use Rattle.som_order.specs.Names.{name_at}
-use Rattle.som_compat_levels.specs.declared.breach.LevelBreach.{LevelBreach}
+use Rattle.som_compat_levels.specs.declared.breach.LevelFault.{LevelFault}
 use Rattle.som_compat_levels.specs.declared.breach.LevelFault.TheVariants as faults
-use Rattle.som_compat_levels.specs.Told.{IsTold}
 use Rattle.som_tower.specs.Towers.{IsTowerOf, TellsTower, tower_classes}
 use Rattle.som_cmd_steps.specs.declared.stop.Refusal.{Refusal}
 use Rattle.som_cmd_steps.specs.declared.stop.CommandStop.{CommandStop}
-use Rattle.som_cmd_steps.specs.declared.stop.CommandStop.TheVariants as stops
-use Rattle.som_cmd_steps.specs.Cause.{IsQuietStop}
 use Rattle.som_cmd_steps.specs.Fetching.{file_of}
 use Rattle.som_cmd_steps.specs.Getting.{images_in}
-use Rattle.som_cmd_steps.specs.Lines.{not_kept}
 use Rattle.som_cmd_steps.specs.Refusing.{StopRefusesAs}
 use Rattle.som_cmd_steps.specs.Steps.{Follows, FollowsTold, Stops}
 use Rattle.som_cmd_steps.proofs.ImageLaws.{stops_first}
-use Rattle.som_cmd_link.specs.Faults.{Refuses}
+use Rattle.som_cmd_steps.proofs.Statuses.{stops_only}
 use Rattle.som_cmd_levels.specs.Comparing.{level_kept_or}
 use Rattle.som_cmd_levels.specs.Refusals.{IsKeptRefusal}
 use Rattle.som_cmd_tower_run.specs.declared.tower.Tower.{Tower}
+use Rattle.som_cmd_tower_run.specs.Faults.{StopsFor}
 use Rattle.som_cmd_tower_run.specs.Kernels.{Lays, LaysTold}
 use Rattle.som_cmd_tower_run.specs.Steps.{first_broken, kept_tower, laid_of, tower_in, tower_of}
 use Rattle.som_cmd_tower_run.proofs.Breaking.{BreachesAtLevels, Found, found_low}
@@ -34,47 +31,24 @@ Read = Result Tower Refusal
 
 -- ---- what a level doesn't keep
 
--- a stop tells a breach, whatever is found that it is told of
-abbrev pub TellsBreach : List (List ℕ) → LevelBreach → CommandStop → Type 0
-TellsBreach below b stop = (found : Found) → IsTold found b → Refuses (Some (not_kept (name_at below b.level) found.1)) stop
+stops_so : (below : List (List ℕ)) (o : Option Found) (found : Found) (stop : CommandStop) → o ≡ Some found → Stops stop (level_kept_or below (Some found)) → Stops stop (level_kept_or below o)
+stops_so below o found stop e is = subst (λ (x : Option Found). Stops stop (level_kept_or below x)) (sym e) is
 
-some_is : (q r : Refusal) → Some q ≡ Some r → q ≡ r
-some_is q r e = cc
-
--- under the name of the level that was found
-named : (below : List (List ℕ)) (b : LevelBreach) (stop : CommandStop) → TellsBreach below b stop → (found : Found) → IsTold found b → Refuses (Some (not_kept (name_at below found.0) found.1)) stop
-named below b stop tells found told = subst (λ (n : ℕ). Refuses (Some (not_kept (name_at below n) found.1)) stop) told.level (tells found told)
-
-stops_so : (below : List (List ℕ)) (o : Option Found) (found : Found) (stop : CommandStop) → o ≡ Some found → Refuses (Some (not_kept (name_at below found.0) found.1)) stop → Stops stop (level_kept_or below o)
-stops_so below o found (stops.Refused r) e is = ap (level_kept_or below) e ∙ ap (λ (x : Refusal). Err x) (some_is (not_kept (name_at below found.0) found.1) r is)
-stops_so below o found (stops.StoreFailed line) e is = absurd is
-stops_so below o found stops.NoMemory e is = tt
-
-pub not_laid : (A : Type 0) (below : List (List ℕ)) (t : Tower) (b : LevelBreach) (stop : CommandStop) → TellsTower {A = A} (first_broken t) (Err (faults.Breach b)) → TellsBreach below b stop → Lays (kept_tower below t) (Err stop)
-not_laid A below t b stop tells is =
-    stops_first stop (level_kept_or below (first_broken t)) (λ (u : Unit {0}). Ok t) (stops_so below (first_broken t) tells.0 stop tells.1 (named below b stop is tells.0 tells.2))
-
-pub quietly : (told : Option Refusal) (stop : CommandStop) → Refuses told stop → IsQuietStop stop
-quietly told (stops.Refused r) is = tt
-quietly told (stops.StoreFailed line) is = absurd is
-quietly told stops.NoMemory is = tt
-
-pub breach_quietly : (A : Type 0) (below : List (List ℕ)) (t : Tower) (b : LevelBreach) (stop : CommandStop) → TellsTower {A = A} (first_broken t) (Err (faults.Breach b)) → TellsBreach below b stop → IsQuietStop stop
-breach_quietly A below t b stop tells is = quietly (Some (not_kept (name_at below b.level) tells.0.1)) stop (is tells.0 tells.2)
+pub not_laid : (A : Type 0) (below : List (List ℕ)) (t : Tower) (fault : LevelFault) (stop : CommandStop) → TellsTower {A = A} (first_broken t) (Err fault) → StopsFor below fault stop → Lays (kept_tower below t) (Err stop)
+not_laid A below t (faults.Breach b) stop tells is = stops_first stop (level_kept_or below (first_broken t)) (λ (u : Unit {0}). Ok t) (stops_so below (first_broken t) tells.0 stop tells.1 (is tells.0 tells.2))
+not_laid A below t faults.NoMemory stop tells is = subst (λ (s : CommandStop). Lays (kept_tower below t) (Err s)) (sym is) tt
 
 name_in : (names : List (List ℕ)) (i : ℕ) → i < length names → Mem (name_at names i) names
 name_in [] i lt = absurd (omega (arith, lt))
 name_in (n ∷ ns) zero lt = inl refl
 name_in (n ∷ ns) (suc i) lt = inr (name_in ns i (omega (arith, lt)))
 
-kept_refusal : (below : List (List ℕ)) (found : Found) (stop : CommandStop) → found.0 < length below → Refuses (Some (not_kept (name_at below found.0) found.1)) stop → StopRefusesAs (IsKeptRefusal below) stop
-kept_refusal below found (stops.Refused r) low is = (name_at below found.0, name_in below found.0 low, found.1, sym (some_is (not_kept (name_at below found.0) found.1) r is))
-kept_refusal below found (stops.StoreFailed line) low is = absurd is
-kept_refusal below found stops.NoMemory low is = tt
-
-pub breach_refused : BreachesAtLevels → (A : Type 0) (below : List (List ℕ)) (t : Tower) (b : LevelBreach) (stop : CommandStop) → IsTowerOf t.levels.base t.levels.uppers t.client → length t.levels.uppers + 1 ≡ length below
-    → TellsTower {A = A} (first_broken t) (Err (faults.Breach b)) → TellsBreach below b stop → StopRefusesAs (IsKeptRefusal below) stop
-breach_refused law A below t b stop is many tells tell = kept_refusal below tells.0 stop (found_low below t is many law tells.0 tells.1) (named below b stop tell tells.0 tells.2)
+pub fault_refused : BreachesAtLevels → (A : Type 0) (below : List (List ℕ)) (t : Tower) (fault : LevelFault) (stop : CommandStop) → IsTowerOf t.levels.base t.levels.uppers t.client → length t.levels.uppers + 1 ≡ length below
+    → TellsTower {A = A} (first_broken t) (Err fault) → StopsFor below fault stop → StopRefusesAs (IsKeptRefusal below) stop
+fault_refused law A below t (faults.Breach b) stop is many tells stopped =
+    let found : Found = tells.0 in
+    stops_only (IsKeptRefusal below) (level_kept_or below (Some found)) (name_at below found.0, name_in below found.0 (found_low below t is many law found tells.1), found.1, refl) stop (stopped found tells.2)
+fault_refused law A below t faults.NoMemory stop is many tells stopped = subst (λ (s : CommandStop). StopRefusesAs (IsKeptRefusal below) s) (sym stopped) tt
 
 -- ---- a tower that is laid out
 

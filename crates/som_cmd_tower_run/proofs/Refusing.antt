@@ -33,11 +33,11 @@ level_absent c below stops.NoMemory is = tt
 
 -- ---- it can't be read, or stands at the wrong place
 
-pub client_refused : ((n : ℕ) (client : Bool) (name bytes : List ℕ) (r : Refusal) → level_read n client name bytes ≡ Err r → IsLevelRefusal name r) → (c : List ℕ) (below : List (List ℕ)) (cb : List ℕ) (n : ℕ) (stop : CommandStop)
-    → Follows {A = Level} (Err stop) (level_read n true c cb) → RefusesAs {A = Tower} (IsLevelsRefusal (c ∷ below)) (Err stop)
-client_refused law c below cb n (stops.Refused r) f = (c, inl refl, law n true c cb r f)
-client_refused law c below cb n (stops.StoreFailed line) f = tt
-client_refused law c below cb n stops.NoMemory f = tt
+pub client_refused : ((n : ℕ) (client : Bool) (name bytes : List ℕ) (r : Refusal) → level_read n client name bytes ≡ Err r → IsLevelRefusal name r) → (c : List ℕ) (below : List (List ℕ)) (cb : List ℕ) (stop : CommandStop)
+    → Follows {A = Level} (Err stop) (level_read (length below) true c cb) → RefusesAs {A = Tower} (IsLevelsRefusal (c ∷ below)) (Err stop)
+client_refused law c below cb (stops.Refused r) f = (c, inl refl, law (length below) true c cb r f)
+client_refused law c below cb (stops.StoreFailed line) f = tt
+client_refused law c below cb stops.NoMemory f = tt
 
 pub level_refused : ((names images : List (List ℕ)) (r : Refusal) → 1 ≤ length names → levels_in names images ≡ Err r → IsLevelsRefusal names r) → (c : List ℕ) (below bs : List (List ℕ)) (stop : CommandStop) → 1 ≤ length below
     → Follows {A = LevelsBelow} (Err stop) (levels_in below bs) → RefusesAs {A = Tower} (IsLevelsRefusal (c ∷ below)) (Err stop)

@@ -137,7 +137,7 @@ module _ (files : Files) (c : List ℕ) (below : List (List ℕ)) (base : Releas
   tower_there : tower_in c below files ≡ Ok all
   tower_there =
       sym (with_images files c below u.top.holds.bytes there.images (got_by (get files c) c u.top.holds.bytes u.top.holds.image_is) there.got)
-      ∙ all_checked c below u.top.holds.bytes there.images (length below) t (levels base uppers) tt tt refl (one_read files (length below) true c t u.top.holds u.levels u.is_client) there.read there.kept client_kept
+      ∙ all_checked c below u.top.holds.bytes there.images t (levels base uppers) tt tt (one_read files (length below) true c t u.top.holds u.levels u.is_client) there.read there.kept client_kept
 
   -- ---- nothing is in the way, unless a level doesn't keep something
 

@@ -1,5 +1,6 @@
 pub mod Steps
 pub mod Kernels
+pub mod Faults
 pub mod Refusals
 pub mod TowerRunAnswer
 pub mod TowerRunEnds

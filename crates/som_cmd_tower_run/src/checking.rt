@@ -16,7 +16,7 @@ use std::alloc::Global;
 
 /// The tower of a client's bytes and of those of the levels below it, where all can be read, each stands at its place, and
 /// none breaks a rule.
-#[tactic(auto, using(crate::proofs::Checked::client_unread, crate::proofs::Checked::level_unread, crate::proofs::Checked::level_broken, crate::proofs::Checked::client_broken, crate::proofs::Checked::all_checked, crate::proofs::Checked::is_tower, crate::proofs::Refusing::client_refused, crate::proofs::Refusing::level_refused, crate::proofs::Refusing::rule_refused, crate::proofs::Refusing::client_rule_refused))]
+#[tactic(auto, using(crate::proofs::Checked::client_unread, crate::proofs::Checked::level_unread, crate::proofs::Checked::level_broken, crate::proofs::Checked::client_broken, crate::proofs::Checked::all_checked, crate::proofs::Refusing::client_refused, crate::proofs::Refusing::level_refused, crate::proofs::Refusing::rule_refused, crate::proofs::Refusing::client_rule_refused))]
 pub(crate) fn checked_tower(
     alloc: Global,
     client: &Text,

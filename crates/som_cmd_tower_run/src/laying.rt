@@ -1,44 +1,44 @@
 //! The steps of a tower before main: its images are got, read and looked at, and it is laid out.
 
 ghost use Rattle.som_cmd_levels.specs.Refusals.{IsKeptRefusal};
-ghost use Rattle.som_cmd_link.specs.Faults.{Refuses};
-ghost use Rattle.som_cmd_steps.specs.Cause.{HasCause, IsQuiet};
+ghost use Rattle.som_cmd_steps.specs.Cause.{HasCause, IsQuiet, IsQuietStop};
 ghost use Rattle.som_cmd_steps.specs.Getting.{FailsGetting};
-ghost use Rattle.som_cmd_steps.specs.Lines.{not_kept};
 ghost use Rattle.som_cmd_steps.specs.Refusing.{RefusesAs};
+ghost use Rattle.som_cmd_tower_run.specs.Faults.{IsWithin, StopsFor};
 ghost use Rattle.som_cmd_tower_run.specs.Kernels.{Lays, LaysTold};
 ghost use Rattle.som_cmd_tower_run.specs.Refusals.{IsTowerRefusal};
 ghost use Rattle.som_cmd_tower_run.specs.Steps.{kept_tower, laid_of};
-ghost use Rattle.som_compat_levels.specs.Told.{IsTold};
-ghost use Rattle.som_model.specs.Compatible.{CompatBreach};
-ghost use Rattle.som_order.specs.Names.{name_at};
 ghost use Rattle.som_tower.specs.Towers.{IsTowerOf};
-ghost use Rattle.std.specs.Prelude.{Some, length, ℕ, ◌+◌, ◌<◌, ◌∷◌, ◌≡◌, ◌≤◌};
+ghost use Rattle.std.specs.Prelude.{length, ◌+◌, ◌∷◌, ◌≡◌, ◌≤◌};
 
 use crate::checking::checked_tower;
 use crate::tower::Tower;
 use som_classmgr::{Kernel, Linked};
-use som_cmd_levels::{breach_level_law, level_name, refuse_level_breach};
+use som_cmd_levels::{breach_level_law, refuse_level};
 use som_cmd_steps::{CommandStop, fetch, fetch_all};
-use som_compat_levels::{LevelBreach, LevelFault};
+use som_compat_levels::LevelFault;
 use som_io::Store;
 use som_model::{List, Text};
 use som_tower::lay_tower;
 use std::alloc::Global;
 
-// What stops a run of a tower in which a level doesn't keep something.
-fn stop_of(alloc: Global, below: &[Text], breach: &LevelBreach) -> CommandStop
-    requires { breach.now.level < length below.now }
-    ensures { (found : ℕ × CompatBreach) → IsTold found breach.now → Refuses (Some (not_kept (name_at below.now breach.now.level) found.1)) result }
+// What stops a run whose tower isn't laid out.
+fn stop_of(alloc: Global, below: &[Text], fault: &LevelFault) -> CommandStop
+    requires { IsWithin (length below.now) fault.now }
+    ensures stops { StopsFor below.now fault.now result }
+    ensures quiet { IsQuietStop result }
 {
-    match refuse_level_breach(alloc, level_name(below, breach), breach) {
-        Ok(refusal) => CommandStop::Refused(refusal),
-        Err(_) => CommandStop::NoMemory,
+    match fault {
+        LevelFault::Breach(breach) => match refuse_level(alloc, below, breach) {
+            Ok(refusal) => CommandStop::Refused(refusal),
+            Err(_) => CommandStop::NoMemory,
+        },
+        LevelFault::NoMemory => CommandStop::NoMemory,
     }
 }
 
 // The kernel of a tower, or what a level doesn't keep first.
-#[tactic(auto, using(crate::proofs::Breaking::breach_low, crate::proofs::Laid::not_laid, crate::proofs::Laid::breach_quietly, crate::proofs::Laid::breach_refused, crate::proofs::Laid::laid))]
+#[tactic(auto, using(crate::proofs::Laid::not_laid, crate::proofs::Laid::laid))]
 fn lay_checked(alloc: Global, below: &[Text], tower: &Tower) -> Result<Kernel<Linked>, CommandStop>
     requires tower { IsTowerOf tower.now.levels.base tower.now.levels.uppers tower.now.client }
     requires many { length tower.now.levels.uppers + 1 ≡ length below.now }
@@ -55,8 +55,7 @@ fn lay_checked(alloc: Global, below: &[Text], tower: &Tower) -> Result<Kernel<Li
         &tower.client,
     ) {
         Ok(kernel) => Ok(kernel),
-        Err(LevelFault::Breach(breach)) => Err(stop_of(alloc, below, &breach)),
-        Err(LevelFault::NoMemory) => Err(CommandStop::NoMemory),
+        Err(fault) => Err(stop_of(alloc, below, &fault)),
     }
 }
 

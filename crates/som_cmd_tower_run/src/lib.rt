@@ -2,10 +2,12 @@
 #![tactic(auto)]
 
 mod checking;
+mod laws;
 mod laying;
 mod run;
 mod tower;
 
+pub use laws::{tower_end_law, tower_newest_law};
 pub use laying::link_tower;
 pub use run::run_tower;
 pub use tower::Tower;

@@ -1,0 +1,46 @@
+//! Laws of runs of towers whose images a store holds, whatever call ends as the answer says.
+
+ghost use Rattle.som_cmd_steps.specs.Getting.{FailsGetting};
+ghost use Rattle.som_cmd_steps.specs.Outcomes.{EndsAs, ShowsSome, StoreFails};
+ghost use Rattle.som_cmd_tower_run.specs.TowerNewest.{HoldsNewestTower, RunsOnNewestTower};
+ghost use Rattle.som_cmd_tower_run.specs.TowerRunAnswer.{IsTowerRunAnswer};
+ghost use Rattle.som_cmd_tower_run.specs.TowerRunEnds.{IsTowerUnder, RunsTowerAs, TellsLevelNotKept};
+ghost use Rattle.som_io.specs.Outside.{Rose};
+ghost use Rattle.som_model.specs.Bytes.{Files};
+ghost use Rattle.som_model.specs.Class.{interface_of};
+ghost use Rattle.som_model.specs.Compatible.{CompatBreach};
+ghost use Rattle.som_model.specs.declared.program.Release.{Release};
+ghost use Rattle.som_sources.specs.declared.source.Source.{Source};
+ghost use Rattle.som_tower.specs.Towers.{programs_above, tower_break};
+ghost use Rattle.som_towerimage.specs.declared.level.Level.{Level};
+ghost use Rattle.std.specs.Prelude.{◌≡◌, ◌≢◌, ◌≤◌, ◌⊎◌, ℕ, [], ◌∷◌, List as Seq, None, Option, Some, length};
+
+/// A call that ends as the answer says runs a client that conforms on levels that conform and stand one above the other: what is
+/// printed is the text of what it means among their classes, and the status is that meaning's, where nothing is broken; else the
+/// first thing is told that a level doesn't keep.
+pub fn tower_end_law()
+    ensures means { (files : Files) (client : Seq ℕ) (below : Seq (Seq ℕ)) (base : Release) (uppers : Seq Level) (c : Level) (fuel status : ℕ) (left : Option Files) (before after : Option (Seq ℕ)) →
+        IsTowerUnder files client below base uppers c → tower_break (interface_of base ∷ []) (programs_above uppers c) ≡ None →
+        EndsAs (IsTowerRunAnswer client below fuel files) status left before after → RunsTowerAs base uppers c fuel status before after }
+    ensures unkept { (files : Files) (client : Seq ℕ) (below : Seq (Seq ℕ)) (base : Release) (uppers : Seq Level) (c : Level) (fuel status : ℕ) (left : Option Files) (before after : Option (Seq ℕ)) (level : ℕ) (b : CompatBreach) →
+        IsTowerUnder files client below base uppers c → tower_break (interface_of base ∷ []) (programs_above uppers c) ≡ Some (level, b) →
+        EndsAs (IsTowerRunAnswer client below fuel files) status left before after → TellsLevelNotKept below level b status before after }
+{}
+
+/// A client of a tower that was compiled from texts against any releases of an accepted tower, one of each list, runs on the newest
+/// of each list, whose images a store holds: these conform and break nothing, so any call with the clauses of `run_tower` prints
+/// exactly the text of what the client means among their classes and ends with that meaning's status, unless the store or the sink
+/// failed or memory ran out. And the metaclass of each of these classes descends from that of each of its parents.
+pub fn tower_newest_law()
+    ensures under { (files : Files) (client : Seq ℕ) (below : Seq (Seq ℕ)) (earlier : Seq Release) (base : Release) (lists : Seq (Seq Level)) (newest : Seq Level) (texts : Seq Source) (c : Level) →
+        HoldsNewestTower files client below earlier base lists newest texts c → length below ≤ 8 → IsTowerUnder files client below base newest c }
+    ensures unbroken { (files : Files) (client : Seq ℕ) (below : Seq (Seq ℕ)) (earlier : Seq Release) (base : Release) (lists : Seq (Seq Level)) (newest : Seq Level) (texts : Seq Source) (c : Level) →
+        HoldsNewestTower files client below earlier base lists newest texts c → length below ≤ 8 → tower_break (interface_of base ∷ []) (programs_above newest c) ≡ None }
+    ensures runs { (files : Files) (client : Seq ℕ) (below : Seq (Seq ℕ)) (earlier : Seq Release) (base : Release) (lists : Seq (Seq Level)) (newest : Seq Level) (texts : Seq Source) (c : Level) →
+        HoldsNewestTower files client below earlier base lists newest texts c → length below ≤ 8 →
+        (fuel store_before store_now sink_before sink_now status : ℕ) (left : Option Files) (before after : Option (Seq ℕ)) →
+        (status ≢ 6 → status ≢ 8 → status ≢ 10 → EndsAs (IsTowerRunAnswer client below fuel files) status left before after) →
+        (status ≡ 6 → StoreFails (FailsGetting (Some files) (client ∷ below)) store_before store_now before after) → (status ≡ 8 → Rose sink_before sink_now) →
+        ((status ≡ 8) ⊎ (status ≡ 10) → ShowsSome (IsTowerRunAnswer client below fuel) (FailsGetting (Some files) (client ∷ below)) (Some files) store_before store_now before after) →
+        RunsOnNewestTower base newest c fuel (FailsGetting (Some files) (client ∷ below)) store_before store_now sink_before sink_now status before after }
+{}
