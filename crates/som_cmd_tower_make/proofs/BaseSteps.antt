@@ -8,7 +8,7 @@ use Rattle.som_model.specs.Compatible.{CompatBreach}
 use Rattle.som_model.specs.Rules.{RuleBreach}
 use Rattle.som_model.specs.Steps.{◌>>=◌}
 use Rattle.som_order.specs.Names.{name_at}
-use Rattle.som_verify_classes.specs.declared.broken.Broken.{Broken}
+use Rattle.som_verify_classes.specs.declared.types.Broken.{Broken}
 use Rattle.som_verify_classes.specs.Told.{told}
 use Rattle.som_compat_levels.specs.declared.breach.LevelBreach.{LevelBreach}
 use Rattle.som_compat_levels.specs.Told.{IsTold}
