@@ -1,5 +1,5 @@
 -- The flat interface of levels that were read, looked at and compared may be compiled against.
-use Rattle.std.proofs.Common.{◌≡◌, ℕ, zero, suc, ◌+◌, ◌<◌, ◌≤◌, Bool, true, false, if◌then◌else◌, nat_le, List, [], ◌∷◌, codes, length, map, slice_get, sum, Option, Some, None, Result, Ok, Err, inl, inr, refl, sym, ap, subst, ◌∙◌, arith}
+use Rattle.std.proofs.Common.{◌≡◌, ℕ, suc, ◌+◌, ◌<◌, ◌≤◌, Bool, true, false, if◌then◌else◌, nat_le, List, [], ◌∷◌, codes, length, map, slice_get, Option, Some, None, Ok, Err, inl, inr, refl, sym, ap, subst, ◌∙◌, arith}
 use Rattle.std.proofs.lemmas.Bool.{leb-true}
 use Rattle.std.proofs.lemmas.List.{length-map}
 use Rattle.std.specs.Option.{option_map}
@@ -17,10 +17,10 @@ use Rattle.som_model.specs.Steps.{◌>>=◌}
 use Rattle.som_model.proofs.StepLaws.{same_ok, went}
 use Rattle.som_cliimage.specs.Limits as programs
 use Rattle.som_level_laws.specs.Levels.{level_classes}
-use Rattle.som_level_programs.specs.Towers.{AreStacked, own_interface}
+use Rattle.som_level_programs.specs.Towers.{own_interface}
 use Rattle.som_level_programs.proofs.Counted.{release_parents}
 use Rattle.som_level_programs.proofs.LevelsStand.{tower_stands}
-use Rattle.som_flat_laws.specs.Flat.{flat_interface, sizes_of}
+use Rattle.som_flat_laws.specs.Flat.{flat_interface}
 use Rattle.som_flat_laws.proofs.Placing.{flat_count}
 use Rattle.som_flat.specs.Breaches.{flat_breach}
 use Rattle.som_flat.proofs.Leveled.{breach_told}
@@ -32,7 +32,6 @@ use Rattle.som_link_limits.proofs.Classes.{program_counts, release_counts}
 use Rattle.som_towerimage.specs.declared.level.Level.{Level}
 use Rattle.som_tower.specs.Towers.{AreLibraries, TellsTower, interfaces_of, plain, tower_break}
 use Rattle.som_tower.proofs.Unbroken.{none_stacked}
-use Rattle.som_cmd_steps.specs.declared.stop.Refusal.{Refusal}
 use Rattle.som_cmd_sources.specs.Texts.{too_many}
 use Rattle.som_cmd_levels.specs.declared.levels.LevelsBelow.{LevelsBelow}
 use Rattle.som_cmd_levels.specs.Comparing.{level_kept_or}
