@@ -1,5 +1,5 @@
 -- Tower images that are read, and whether they stand at their place.
-use Rattle.std.proofs.Common.{◌≡◌, ℕ, Bool, List, Result, sym, subst}
+use Rattle.std.proofs.Common.{ℕ, Bool, List, Result, sym, subst}
 use Rattle.som_model.specs.Bytes.{AreBytes}
 use Rattle.som_image_fields.specs.declared.fault.ImageFault.{ImageFault}
 use Rattle.som_image_fields.specs.Fields.{Gives}

@@ -1,5 +1,5 @@
 -- How the end of a call of `tower check` is that of its answer.
-use Rattle.std.proofs.Common.{◌≡◌, ℕ, ◌==◌, if◌then◌else◌, not, false, Bool, List, length, Option, Some, None, Result, Ok, Err, refl, sym, ap, ◌∙◌, arith}
+use Rattle.std.proofs.Common.{◌≡◌, ℕ, if◌then◌else◌, not, false, Bool, List, length, Option, Some, None, Result, Ok, Err, refl, sym, ap, ◌∙◌, arith}
 use Rattle.std.proofs.lemmas.Bool.{eq-eqb}
 use Rattle.som_model.specs.Bytes.{Files}
 use Rattle.som_model.specs.Compatible.{CompatBreach}
@@ -10,7 +10,6 @@ use Rattle.som_image_fields.specs.declared.fault.ImageFault.TheVariants as fault
 use Rattle.som_level_laws.proofs.Breaks.{kept_none, none_kept}
 use Rattle.som_towerimage.specs.declared.level.Level.{Level}
 use Rattle.som_verify.proofs.Conforming.{conforms_program}
-use Rattle.som_cmd_steps.specs.declared.stop.Refusal.{Refusal}
 use Rattle.som_cmd_steps.specs.Endings.{Ending}
 use Rattle.som_cmd_steps.specs.ImageSteps.{kept_or, program_rules_kept, read_or}
 use Rattle.som_cmd_steps.specs.Lines.{not_kept}

@@ -1,5 +1,5 @@
 -- What the steps of `tower check` come to is the ending that is asked.
-use Rattle.std.proofs.Common.{◌≡◌, ℕ, List, [], ◌∷◌, ◌++◌, Option, Some, None, Result, Ok, Err, refl, sym, ap, ◌∙◌}
+use Rattle.std.proofs.Common.{◌≡◌, ℕ, List, [], ◌∷◌, Option, Some, None, Result, Ok, Err, refl, sym, ap, ◌∙◌}
 use Rattle.std.proofs.lemmas.List.{append-nil}
 use Rattle.som_model.specs.Bytes.{Files}
 use Rattle.som_cmd_steps.specs.declared.output.End.TheVariants as the_end

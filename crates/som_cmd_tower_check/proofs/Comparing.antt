@@ -1,5 +1,5 @@
 -- Two libraries that are compared, and the line that comes of it.
-use Rattle.std.proofs.Common.{◌≡◌, ℕ, List, [], ◌∷◌, ◌++◌, length, Option, Some, None, Result, Ok, Err, sym, ap, subst, ◌∙◌}
+use Rattle.std.proofs.Common.{◌≡◌, ℕ, List, [], ◌∷◌, ◌++◌, length, Option, Result, Ok, Err, sym, ap, subst, ◌∙◌}
 use Rattle.std.specs.Prelude.{codes}
 use Rattle.som_model.specs.Compatible.{CompatBreach}
 use Rattle.som_model.specs.declared.program.Interface.{Interface}

@@ -4,7 +4,7 @@ use Rattle.std.specs.List.{All}
 use Rattle.std.proofs.lemmas.List.{length-append, length-map, take-append-drop}
 use Rattle.som_model.specs.declared.class.ClassDecl.{ClassDecl}
 use Rattle.som_model.specs.declared.class.ClassFace.{ClassFace}
-use Rattle.som_model.specs.declared.limits.TheConstants.{MAX_CLIENT_CLASSES, MAX_LIBRARY_CLASSES}
+use Rattle.som_model.specs.declared.limits.TheConstants.{MAX_LIBRARY_CLASSES}
 use Rattle.som_model.specs.declared.program.Interface.{Interface}
 use Rattle.som_model.specs.Classes.{client_classes, interface_classes}
 use Rattle.som_model.specs.Counts.{FaceCounted}

@@ -3,5 +3,7 @@
 
 mod check;
 mod compare;
+mod laws;
 
 pub use check::check_levels;
+pub use laws::tower_check_law;
