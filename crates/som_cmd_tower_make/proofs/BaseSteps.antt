@@ -1,18 +1,17 @@
 -- The steps from images to the flat interface of their levels, one after the other.
-use Rattle.std.proofs.Common.{◌≡◌, ℕ, ◌<◌, ◌≤◌, Bool, true, false, if◌then◌else◌, nat_le, List, [], ◌∷◌, codes, length, map, Option, Some, None, Result, Ok, Err, refl, sym, ap, subst, ◌∙◌, arith}
+use Rattle.std.proofs.Common.{◌≡◌, ℕ, ◌<◌, ◌≤◌, Bool, true, false, if◌then◌else◌, nat_le, List, [], ◌∷◌, codes, length, map, Option, Some, None, Result, Ok, Err, sym, ap, subst, ◌∙◌, arith}
 use Rattle.std.proofs.lemmas.Grind.{common_steps}
 use Rattle.som_model.specs.declared.limits.TheConstants.{MAX_LIBRARY_CLASSES}
 use Rattle.som_model.specs.declared.program.Interface.{Interface}
 use Rattle.som_model.specs.Class.{interface_of}
 use Rattle.som_model.specs.Compatible.{CompatBreach}
-use Rattle.som_model.specs.Rules.{RuleBreach}
 use Rattle.som_model.specs.Steps.{◌>>=◌}
 use Rattle.som_order.specs.Names.{name_at}
-use Rattle.som_verify_classes.specs.declared.broken.Broken.{Broken}
+use Rattle.som_verify_classes.specs.declared.types.Broken.{Broken}
 use Rattle.som_verify_classes.specs.Told.{told}
 use Rattle.som_compat_levels.specs.declared.breach.LevelBreach.{LevelBreach}
 use Rattle.som_compat_levels.specs.Told.{IsTold}
-use Rattle.som_flat_laws.specs.Flat.{flat_interface, sizes_of}
+use Rattle.som_flat_laws.specs.Flat.{flat_interface}
 use Rattle.som_flat.specs.Breaches.{flat_breach}
 use Rattle.som_tower.specs.Towers.{interfaces_of, plain, tower_break}
 use Rattle.som_cmd_steps.specs.declared.stop.Refusal.{Refusal}

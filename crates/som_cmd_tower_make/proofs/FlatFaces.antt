@@ -1,5 +1,5 @@
 -- An image has room for the faces of the flat interface where it has room for those of the levels.
-use Rattle.std.proofs.Common.{◌≡◌, ℕ, suc, ◌≤◌, List, [], ◌∷◌, ◌++◌, length, get_or, map, inl, inr, refl, sym, ap, subst, ◌∙◌}
+use Rattle.std.proofs.Common.{ℕ, suc, ◌≤◌, List, [], ◌∷◌, get_or, map, inl, inr, refl, sym, ap, subst, ◌∙◌}
 use Rattle.std.specs.Prelude.{All}
 use Rattle.std.proofs.lemmas.List.{length-map}
 use Rattle.std.proofs.lemmas.List.Elements.{All-append, All-map, All-nil}
@@ -11,7 +11,7 @@ use Rattle.som_model.specs.declared.class.Entry.TheVariants as entries
 use Rattle.som_model.specs.declared.limits.TheConstants.{MAX_ENTRIES, MAX_PARAMETERS, MAX_PARENTS}
 use Rattle.som_model.specs.declared.program.Interface.{Interface}
 use Rattle.som_model.specs.declared.program.Release.{Release}
-use Rattle.som_model.specs.Class.{Class, bare, class_in, interface_of}
+use Rattle.som_model.specs.Class.{Class, bare, class_in}
 use Rattle.som_model.specs.Lists.{Mem}
 use Rattle.som_model_laws.proofs.Lists.{map_mem}
 use Rattle.som_rekey_laws.specs.Rekeying.{ModuleChange, rekey, rekey_entry, rekey_face, rekey_type}

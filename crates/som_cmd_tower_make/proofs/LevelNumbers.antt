@@ -1,5 +1,5 @@
 -- What is told of a level is told of one of those that there are.
-use Rattle.std.proofs.Common.{◌≡◌, ◌⊎◌, inl, inr, ℕ, zero, suc, ◌+◌, ◌<◌, ◌≤◌, List, [], ◌∷◌, ◌++◌, drop, length, map, flat_map, slice_get, Option, Some, None, refl, sym, ap, subst, ◌∙◌, arith}
+use Rattle.std.proofs.Common.{◌≡◌, ◌⊎◌, inl, inr, ℕ, zero, suc, ◌+◌, ◌<◌, ◌≤◌, List, [], ◌∷◌, ◌++◌, drop, length, map, flat_map, slice_get, Option, Some, None, refl, sym, ap, ◌∙◌, arith}
 use Rattle.std.proofs.lemmas.List.{length-map}
 use Rattle.som_model.specs.declared.class.ClassFace.{ClassFace}
 use Rattle.som_model.specs.declared.program.Interface.{Interface}
@@ -23,7 +23,6 @@ use Rattle.som_flat_laws.proofs.Lists.{first_mem}
 use Rattle.som_flat.specs.Breaches.{at_level, flat_breach, introduced_again, named_again}
 use Rattle.som_towerimage.specs.declared.level.Level.{Level}
 use Rattle.som_tower.specs.Towers.{AreLibraries, plain, tower_break}
-use Rattle.som_cmd_levels.proofs.Breaching as breaching
 
 -- ---- classes of levels
 
@@ -88,11 +87,15 @@ long_below l =
     length-map (split l.sizes l.program.base.classes) (λ (faces : List ClassFace). let i : Interface = record { classes = map (rekey_face (level_change l.sizes l.client l.program.base)) faces } in i)
     ∙ long_split l.sizes l.program.base.classes
 
-break_level : (n : ℕ) (is : List Interface) (ls : List LevelProgram) (found : ℕ × CompatBreach) → ((l : LevelProgram) → Mem l ls → length l.sizes ≤ n) → tower_break is ls ≡ Some found → found.0 < n
-break_level n is [] found few e = absurd (let z = e in cc)
-break_level n is (l ∷ ls) found few e = elim (either (first_level_break (levels_below l.sizes l.client l.program.base) is) (tower_break (is ++ own_interface l ∷ []) ls) found e) [
-  | inl here ↦ (let at = breaching.at_level (levels_below l.sizes l.client l.program.base) is found here in let long = long_below l in let f = few l (inl refl) in omega (arith, at, long, f))
-  | inr more ↦ break_level n (is ++ own_interface l ∷ []) ls found (λ x m. few x (inr m)) more
+-- a class of which newer levels don't keep all stands at one of the older ones
+abbrev pub BreachesAtLevels : Type 0
+BreachesAtLevels = (olds news : List Interface) (found : ℕ × CompatBreach) → first_level_break olds news ≡ Some found → found.0 < length olds
+
+break_level : BreachesAtLevels → (n : ℕ) (is : List Interface) (ls : List LevelProgram) (found : ℕ × CompatBreach) → ((l : LevelProgram) → Mem l ls → length l.sizes ≤ n) → tower_break is ls ≡ Some found → found.0 < n
+break_level law n is [] found few e = absurd (let z = e in cc)
+break_level law n is (l ∷ ls) found few e = elim (either (first_level_break (levels_below l.sizes l.client l.program.base) is) (tower_break (is ++ own_interface l ∷ []) ls) found e) [
+  | inl here ↦ (let at = law (levels_below l.sizes l.client l.program.base) is found here in let long = long_below l in let f = few l (inl refl) in omega (arith, at, long, f))
+  | inr more ↦ break_level law n (is ++ own_interface l ∷ []) ls found (λ x m. few x (inr m)) more
 ]
 
 at_place : {A : Type 0} (xs : List A) (x : A) → Mem x xs → (i : ℕ) × (i < length xs) × (slice_get xs i ≡ Some x)
@@ -100,9 +103,9 @@ at_place [] x m = absurd m
 at_place (y ∷ ys) x (inl e) = (0, omega arith, ap (λ z. Some z) (sym e))
 at_place (y ∷ ys) x (inr m) = let r = at_place ys x m in (suc r.0, (let lt = r.1 in omega (arith, lt)), r.2)
 
-pub tower_level : (base : Release) (uppers : List Level) (found : ℕ × CompatBreach) → AreLibraries base uppers → tower_break (interface_of base ∷ []) (map plain uppers) ≡ Some found → found.0 < length uppers + 1
-tower_level base uppers found ok e =
-    break_level (length uppers + 1) (interface_of base ∷ []) (map plain uppers) found
+pub tower_level : BreachesAtLevels → (base : Release) (uppers : List Level) (found : ℕ × CompatBreach) → AreLibraries base uppers → tower_break (interface_of base ∷ []) (map plain uppers) ≡ Some found → found.0 < length uppers + 1
+tower_level law base uppers found ok e =
+    break_level law (length uppers + 1) (interface_of base ∷ []) (map plain uppers) found
     (λ l m. (let q = map_mem plain l uppers m in
     let at = at_place uppers q.0 q.1 in
     let many : length q.0.sizes ≡ at.0 + 1 = (ok.each at.0 q.0 at.2).levels in

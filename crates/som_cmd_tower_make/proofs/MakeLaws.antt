@@ -1,5 +1,5 @@
 -- What each step of `tower make` answers and leaves is what the command does.
-use Rattle.std.proofs.Common.{◌≡◌, ℕ, ◌≤◌, Bool, List, Option, Some, None, Result, Ok, Err, sym, subst}
+use Rattle.std.proofs.Common.{◌≡◌, ℕ, ◌≤◌, Bool, List, Option, Result, Ok, Err, subst}
 use Rattle.som_model.specs.Bytes.{AreBytes, Files}
 use Rattle.som_sources.specs.declared.fault.CompileFault.{CompileFault}
 use Rattle.som_sources.specs.Reading.{Says}

@@ -1,12 +1,11 @@
 -- What is known of levels whose images were read and looked at.
-use Rattle.std.proofs.Common.{◌≡◌, ℕ, zero, suc, ◌+◌, ◌≤◌, ◌==◌, Bool, true, false, not, if◌then◌else◌, List, [], ◌∷◌, length, drop, slice_get, Option, Some, None, Result, Ok, Err, refl, sym, ap, subst, ◌∙◌, arith}
+use Rattle.std.proofs.Common.{◌≡◌, ℕ, zero, suc, ◌+◌, ◌≤◌, ◌==◌, Bool, true, false, not, if◌then◌else◌, List, [], ◌∷◌, length, drop, Option, Some, None, Result, Ok, Err, refl, ap, subst, arith}
 use Rattle.std.proofs.lemmas.Bool.{eqb-true}
 use Rattle.som_model.specs.declared.program.Release.{Release}
-use Rattle.som_model.specs.Bytes.{AreBytes}
 use Rattle.som_model.specs.Conforming.{ProgramOk, program_breach, release_breach}
 use Rattle.som_model.specs.Rules.{RuleBreach}
 use Rattle.som_model.specs.Steps.{◌>>=◌}
-use Rattle.som_model.proofs.StepLaws.{Went, same_ok, went}
+use Rattle.som_model.proofs.StepLaws.{same_ok, went}
 use Rattle.som_order.specs.Names.{name_at}
 use Rattle.som_image_fields.specs.declared.fault.ImageFault.{ImageFault}
 use Rattle.som_image_fields.specs.declared.fault.ImageFault.TheVariants as faults
@@ -18,9 +17,8 @@ use Rattle.som_towerimage.specs.Reading.{level_at}
 use Rattle.som_towerimage.specs.Spelling.{FitsTower}
 use Rattle.som_towerimage.proofs.Decoded as towers
 use Rattle.som_verify.proofs.Conforming.{program_conforms, release_conforms}
-use Rattle.som_cmd_steps.specs.declared.stop.Refusal.{Refusal}
 use Rattle.som_cmd_steps.specs.EachImage.{each_passes}
-use Rattle.som_cmd_steps.specs.ImageSteps.{are_bytes, kept_or, library_in, program_rules_kept, read_if, read_or, release_in, rules_kept}
+use Rattle.som_cmd_steps.specs.ImageSteps.{are_bytes, kept_or, library_in, read_if, read_or, release_in, rules_kept}
 use Rattle.som_cmd_steps.proofs.ByteLaws.{bytes_below, library_bytes}
 use Rattle.som_cmd_levels.specs.declared.levels.LevelsBelow.{LevelsBelow}
 use Rattle.som_cmd_levels.specs.LevelImages.{in_place, is_kind, level_in, level_read, of_kind, placed_in}

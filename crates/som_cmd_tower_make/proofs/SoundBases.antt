@@ -1,5 +1,5 @@
 -- The flat interface of levels that were read, looked at and compared may be compiled against.
-use Rattle.std.proofs.Common.{◌≡◌, ℕ, zero, suc, ◌+◌, ◌<◌, ◌≤◌, Bool, true, false, if◌then◌else◌, nat_le, List, [], ◌∷◌, codes, length, map, slice_get, sum, Option, Some, None, Result, Ok, Err, inl, inr, refl, sym, ap, subst, ◌∙◌, arith}
+use Rattle.std.proofs.Common.{◌≡◌, ℕ, suc, ◌+◌, ◌<◌, ◌≤◌, Bool, true, false, if◌then◌else◌, nat_le, List, [], ◌∷◌, codes, length, map, slice_get, Option, Some, None, Ok, Err, inl, inr, refl, sym, ap, subst, ◌∙◌, arith}
 use Rattle.std.proofs.lemmas.Bool.{leb-true}
 use Rattle.std.proofs.lemmas.List.{length-map}
 use Rattle.std.specs.Option.{option_map}
@@ -17,20 +17,21 @@ use Rattle.som_model.specs.Steps.{◌>>=◌}
 use Rattle.som_model.proofs.StepLaws.{same_ok, went}
 use Rattle.som_cliimage.specs.Limits as programs
 use Rattle.som_level_laws.specs.Levels.{level_classes}
-use Rattle.som_level_programs.specs.Towers.{AreStacked, own_interface}
+use Rattle.som_level_programs.specs.Towers.{own_interface}
 use Rattle.som_level_programs.proofs.Counted.{release_parents}
 use Rattle.som_level_programs.proofs.LevelsStand.{tower_stands}
-use Rattle.som_flat_laws.specs.Flat.{flat_interface, sizes_of}
+use Rattle.som_flat_laws.specs.Flat.{flat_interface}
 use Rattle.som_flat_laws.proofs.Placing.{flat_count}
 use Rattle.som_flat.specs.Breaches.{flat_breach}
 use Rattle.som_flat.proofs.Leveled.{breach_told}
 use Rattle.som_compat_levels.specs.declared.breach.LevelBreach.{LevelBreach}
+use Rattle.som_compat_levels.specs.declared.breach.LevelFault.{LevelFault}
+use Rattle.som_compat_levels.specs.declared.breach.LevelFault.TheVariants as faults
 use Rattle.som_compat_levels.specs.Told.{IsTold}
 use Rattle.som_link_limits.proofs.Classes.{program_counts, release_counts}
 use Rattle.som_towerimage.specs.declared.level.Level.{Level}
-use Rattle.som_tower.specs.Towers.{AreLibraries, interfaces_of, plain, tower_break}
+use Rattle.som_tower.specs.Towers.{AreLibraries, TellsTower, interfaces_of, plain, tower_break}
 use Rattle.som_tower.proofs.Unbroken.{none_stacked}
-use Rattle.som_cmd_steps.specs.declared.stop.Refusal.{Refusal}
 use Rattle.som_cmd_sources.specs.Texts.{too_many}
 use Rattle.som_cmd_levels.specs.declared.levels.LevelsBelow.{LevelsBelow}
 use Rattle.som_cmd_levels.specs.Comparing.{level_kept_or}
@@ -38,7 +39,7 @@ use Rattle.som_cmd_levels.specs.Levels.{AreLevelsOf, LevelsConform, levels_in, l
 use Rattle.som_cmd_tower_make.specs.declared.base.TowerBase.{TowerBase}
 use Rattle.som_cmd_tower_make.specs.Bases.{IsSoundBase}
 use Rattle.som_cmd_tower_make.specs.TowerParts.{base_in, base_of, classes_kept, flat_in, flat_kept_or, levels_standing, standing_in}
-use Rattle.som_cmd_tower_make.proofs.LevelNumbers.{flat_level, tower_level}
+use Rattle.som_cmd_tower_make.proofs.LevelNumbers.{BreachesAtLevels, flat_level, tower_level}
 use Rattle.som_cmd_tower_make.proofs.FlatFaces.{flat_roomy, tower_roomy}
 use Rattle.som_cmd_tower_make.proofs.ReadLevels.{levels_known, rules_known}
 
@@ -104,10 +105,13 @@ standing_many names below is levels same =
     omega (arith, a, b, c)
 
 -- what one of them doesn't keep has the name of one, and so has what breaks a rule
-pub level_named : (names : List (List ℕ)) (below : LevelsBelow) (b : LevelBreach) → AreLevelsOf names below → LevelsConform below → length names ≤ 8
+pub told_breach : (A : Type 0) (breach : Option (ℕ × CompatBreach)) (e : LevelFault) (b : LevelBreach) → e ≡ faults.Breach b → TellsTower {A = A} breach (Err e) → (found : ℕ × CompatBreach) × (breach ≡ Some found) × IsTold found b
+told_breach A breach e b is t = let P : LevelFault → Type 0 = λ z. TellsTower {A = A} breach (Err z) in subst P is t
+
+pub level_named : BreachesAtLevels → (names : List (List ℕ)) (below : LevelsBelow) (b : LevelBreach) → AreLevelsOf names below → LevelsConform below → length names ≤ 8
     → ((found : ℕ × CompatBreach) × (tower_break (interface_of below.base ∷ []) (map plain below.uppers) ≡ Some found) × IsTold found b) → b.level < length names
-level_named names below b levels conform few (found, is, told) =
-    let low = tower_level below.base below.uppers found (libraries_of names below levels conform few) is in
+level_named law names below b levels conform few (found, is, told) =
+    let low = tower_level law below.base below.uppers found (libraries_of names below levels conform few) is in
     let at = told.level in
     let many = levels.many in
     omega (arith, low, at, many)

@@ -1,8 +1,7 @@
 -- Libraries of a tower whose images a store holds are got, read and kept.
-use Rattle.std.proofs.Common.{◌≡◌, ℕ, zero, suc, ◌+◌, ◌≤◌, ◌==◌, Bool, true, false, not, if◌then◌else◌, nat_le, List, [], ◌∷◌, ◌++◌, codes, length, map, slice_get, Option, Some, None, Result, Ok, Err, refl, sym, ap, subst, ◌∙◌, arith}
+use Rattle.std.proofs.Common.{◌≡◌, ℕ, zero, suc, ◌+◌, ◌≤◌, ◌==◌, Bool, true, false, not, if◌then◌else◌, List, [], ◌∷◌, ◌++◌, length, map, slice_get, Option, Some, None, Result, Ok, Err, refl, sym, ap, subst, ◌∙◌, arith}
 use Rattle.std.proofs.lemmas.Grind.{common_steps}
 use Rattle.std.specs.FinMap.{get}
-use Rattle.som_model.specs.declared.limits.TheConstants.{MAX_LIBRARY_CLASSES}
 use Rattle.som_model.specs.declared.program.Interface.{Interface}
 use Rattle.som_model.specs.declared.program.Release.{Release}
 use Rattle.som_model.specs.Bytes.{Files}
@@ -26,21 +25,18 @@ use Rattle.som_tower.proofs.Unbroken.{stacked_none}
 use Rattle.som_verify.proofs.Conforming.{conforms_program, conforms_release}
 use Rattle.som_cmd_steps.specs.declared.stop.Refusal.{Refusal}
 use Rattle.som_cmd_steps.specs.EachImage.{each_passes}
-use Rattle.som_cmd_steps.specs.Fetching.{file_of}
 use Rattle.som_cmd_steps.specs.Getting.{images_in}
 use Rattle.som_cmd_steps.specs.ImageSteps.{kept_or, read_or}
-use Rattle.som_cmd_steps.specs.StoredImages.{IsUnder}
 use Rattle.som_cmd_steps.proofs.ByteLaws.{library_read}
 use Rattle.som_cmd_steps.proofs.FileLaws.{got_by}
 use Rattle.som_cmd_levels.specs.declared.levels.LevelsBelow.{LevelsBelow}
 use Rattle.som_cmd_levels.specs.Comparing.{level_kept_or}
-use Rattle.som_cmd_levels.specs.LevelImages.{in_place, level_in, level_read, of_kind}
+use Rattle.som_cmd_levels.specs.LevelImages.{in_place, level_read, of_kind}
 use Rattle.som_cmd_levels.specs.Levels.{level_rules_kept, levels_in, levels_rules_kept, uppers_in}
 use Rattle.som_cmd_levels.specs.StoredLevels.{AreLevelsUnder, HoldsLevel, IsLevelUnder}
 use Rattle.som_cmd_levels.proofs.Stored.{stored_read, stored_within}
-use Rattle.som_cmd_tower_make.specs.declared.base.TowerBase.{TowerBase}
 use Rattle.som_cmd_tower_make.specs.TowerMakeEnds.{AreTowerUnder, IsLibraryAbove, IsSoundFlat}
-use Rattle.som_cmd_tower_make.specs.TowerParts.{base_in, base_of, classes_kept, flat_in, flat_kept_or, standing_in}
+use Rattle.som_cmd_tower_make.specs.TowerParts.{base_in, base_of, flat_kept_or, standing_in}
 use Rattle.som_cmd_tower_make.proofs.BaseSteps.{few_classes, flat_made, with_standing}
 use Rattle.som_cmd_tower_make.proofs.SoundBases.{faces_load}
 

@@ -1,5 +1,5 @@
 -- Whatever is got and compiled, there is one answer.
-use Rattle.std.proofs.Common.{◌≡◌, ℕ, zero, suc, ◌≤◌, Bool, true, false, if◌then◌else◌, List, [], ◌∷◌, length, Result, Ok, Err, refl, sym, ap, subst, ◌∙◌, arith}
+use Rattle.std.proofs.Common.{◌≡◌, ℕ, suc, ◌≤◌, Bool, true, false, if◌then◌else◌, List, [], ◌∷◌, length, Ok, refl, sym, ap, subst, arith}
 use Rattle.som_model.specs.Bytes.{Files}
 use Rattle.som_model.specs.Lists.{some}
 use Rattle.som_model.specs.Steps.{◌>>=◌}
@@ -9,7 +9,6 @@ use Rattle.som_sources.specs.Sources.{is_main, mains_in, names_of}
 use Rattle.som_level_compile.specs.CompilingLevels.{AreSizesBelow}
 use Rattle.som_level_compile.proofs.LevelLaws.{one_level, some_level}
 use Rattle.som_towerimage.specs.Spelling.{most_below}
-use Rattle.som_cmd_steps.specs.declared.stop.Refusal.{Refusal}
 use Rattle.som_cmd_steps.specs.Endings.{Ending}
 use Rattle.som_cmd_steps.specs.Fetching.{file_of}
 use Rattle.som_cmd_steps.specs.Getting.{images_in}

@@ -1,5 +1,5 @@
 -- What `tower make` may refuse, and which statuses it may end with, whatever the store tells.
-use Rattle.std.proofs.Common.{◌≡◌, ℕ, suc, ◌==◌, Bool, true, false, if◌then◌else◌, nat_le, List, [], ◌∷◌, codes, drop, length, map, Option, Some, None, Result, Ok, Err, refl, sym, subst, inl, inr}
+use Rattle.std.proofs.Common.{ℕ, suc, Bool, true, false, if◌then◌else◌, nat_le, List, [], ◌∷◌, codes, drop, length, map, Option, Some, None, Result, Ok, Err, refl, sym, subst, inl, inr}
 use Rattle.som_model.specs.declared.limits.TheConstants.{MAX_LIBRARY_CLASSES}
 use Rattle.som_model.specs.declared.program.Interface.{Interface}
 use Rattle.som_model.specs.declared.program.Release.{Release}

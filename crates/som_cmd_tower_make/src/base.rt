@@ -10,7 +10,7 @@ ghost use Rattle.som_flat_laws.specs.Flat.{flat_interface as flat_of};
 ghost use Rattle.som_order.specs.Names.{name_at};
 ghost use Rattle.std.specs.Prelude.{IfOk, length, ◌<◌, ◌≡◌, ◌≤◌};
 
-use som_cmd_levels::{LevelsBelow, look_at_levels, read_levels, refuse_level};
+use som_cmd_levels::{LevelsBelow, breach_level_law, look_at_levels, read_levels, refuse_level};
 use som_cmd_sources::refuse_limit;
 use som_cmd_steps::{CommandStop, refuse_broken};
 use som_compat_levels::LevelFault;
@@ -41,6 +41,7 @@ fn standing(
     ensures many { IfOk result (λ is. length is ≡ length names.now) }
     ensures quiet { IsQuiet result }
 {
+    breach_level_law();
     match standing_levels(alloc, &below.base, &below.uppers) {
         Ok(interfaces) => Ok(interfaces),
         Err(LevelFault::Breach(breach)) => {

@@ -2,9 +2,11 @@
 #![tactic(auto)]
 
 mod base;
+mod laws;
 mod making;
 mod parts;
 
 pub use base::TowerBase;
+pub use laws::made_level_law;
 pub use making::build_level;
 pub use parts::TowerParts;
