@@ -3,7 +3,7 @@
 OUT = crates/som/out
 SOM = $(OUT)/som
 HELLO = examples/hello/hello
-EXAMPLES = zoo shop document plugin
+EXAMPLES = zoo shop document plugin vendors
 TABLE = crates/som_test_tables/data/try.rows
 
 # Where `make install` puts the program and what belongs to it; DESTDIR stands before it.

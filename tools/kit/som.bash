@@ -22,6 +22,7 @@ _som() {
           mapfile -t COMPREPLY < <(compgen -W '--fuel --trace' -- "$word")
         fi
         ;;
+      tower) ((COMP_CWORD == 2)) && mapfile -t COMPREPLY < <(compgen -W 'make check run' -- "$word") || mapfile -t COMPREPLY < <(compgen -f -- "$word") ;;
       generate) ;;
       *) mapfile -t COMPREPLY < <(compgen -f -- "$word") ;;
     esac

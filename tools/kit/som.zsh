@@ -24,6 +24,8 @@ case $words[2] in
       flags=('--fuel:units that the run may take' '--trace:shows each call, or those of a class')
       _describe 'flag' flags
     fi ;;
+  tower)
+    if (( CURRENT == 3 )); then compadd make check run; else _files; fi ;;
   generate) _message 'number of classes' ;;
   *) _files ;;
 esac
