@@ -1,11 +1,10 @@
 -- The first breach of the flat interface, with the level of its class.
-use Rattle.std.proofs.Common.{◌≡◌, ℕ, inl, inr, List, [], ◌∷◌, ◌++◌, map, flat_map, Option, Some, None, Bool, not, if◌then◌else◌, codes, refl, sym, ap, ◌∙◌, subst}
+use Rattle.std.proofs.Common.{◌≡◌, ℕ, inl, inr, List, [], ◌∷◌, ◌++◌, map, flat_map, Some, None, not, if◌then◌else◌, codes, refl, sym, ap, ◌∙◌, subst}
 use Rattle.std.proofs.lemmas.List.{map-append}
 use Rattle.std.specs.Option.{option_map}
 use Rattle.std.specs.Prelude.{Result, Ok, Err}
 use Rattle.std.specs.Str.{bytes_eq}
 use Rattle.som_model.specs.declared.class.ClassDecl.{ClassDecl}
-use Rattle.som_model.specs.declared.class.ClassFace.{ClassFace}
 use Rattle.som_model.specs.declared.program.Interface.{Interface}
 use Rattle.som_model.specs.Lists.{Mem, among, doubles, first, or_else}
 use Rattle.som_model.specs.Class.{Class, bare}
@@ -14,11 +13,11 @@ use Rattle.som_model.specs.Compatible.{release_of}
 use Rattle.som_model.specs.Kernel.{kernel}
 use Rattle.som_model.specs.Loads.{FacesLoad}
 use Rattle.som_model.specs.Owner.{introduced_by}
-use Rattle.som_model.specs.Rules.{RuleBreach, breach, demand, name_of, s1, s8}
+use Rattle.som_model.specs.Rules.{RuleBreach, breach, name_of, s1, s8}
 use Rattle.som_model.specs.Conforming.{each_after, faces_breach}
 use Rattle.som_model_laws.proofs.Lists.{flat_mem, map_mem, mem_map}
 use Rattle.som_model_laws.proofs.Members.{Apart, mem_split}
-use Rattle.som_rekey_laws.specs.Rekeying.{rekey_class, rekey_classes}
+use Rattle.som_rekey_laws.specs.Rekeying.{rekey_class}
 use Rattle.som_rekey_laws.proofs.Lists.{map_twice, or_else_map}
 use Rattle.som_rekey_rules.proofs.ClassesTyped.{flat_same}
 use Rattle.som_verify_classes.specs.Modules.{module_of}
@@ -26,7 +25,7 @@ use Rattle.som_verify_classes.specs.Told.{of_library, of_release, told}
 use Rattle.som_verify_classes.proofs.PlainNames.{names_say}
 use Rattle.som_level_laws.specs.Levels.{all_levels, level_classes}
 use Rattle.som_compat_levels.specs.Told.{level_of}
-use Rattle.som_flat_laws.specs.Flat.{class_by_owners, flat_interface, flat_module, levels_by_owners}
+use Rattle.som_flat_laws.specs.Flat.{class_by_owners, flat_interface, flat_module}
 use Rattle.som_flat_laws.proofs.Breaches.{apart_names, flat_exact}
 use Rattle.som_flat_laws.proofs.Flattening.{flat_classes}
 use Rattle.som_flat_laws.proofs.Lists.{first_mem, one_of}

@@ -1,10 +1,10 @@
 -- Classes of one name: the names that were noted so far, and the level of a class of a name.
-use Rattle.std.proofs.Common.{◌≡◌, ℕ, zero, suc, ◌+◌, ◌<◌, ◌≤◌, ◌⊎◌, inl, inr, Bool, true, false, not, if◌then◌else◌, List, [], ◌∷◌, ◌++◌, map, length, take, drop, Some, None, slice_index_or, codes, refl, sym, ap, ◌∙◌, subst, arith, true≢false}
+use Rattle.std.proofs.Common.{◌≡◌, ℕ, zero, suc, ◌+◌, ◌<◌, ◌≤◌, inl, inr, Bool, true, false, not, if◌then◌else◌, List, [], ◌∷◌, ◌++◌, map, length, take, drop, Some, None, slice_index_or, codes, refl, sym, ap, ◌∙◌, subst, arith, true≢false}
 use Rattle.std.proofs.lemmas.List.{map-append}
 use Rattle.std.specs.Str.{bytes_eq}
 use Rattle.som_model.specs.Lists.{Mem, among, first, or_else}
 use Rattle.som_model.specs.Class.{Class, bare}
-use Rattle.som_model.specs.Rules.{RuleBreach, breach, name_of, s1}
+use Rattle.som_model.specs.Rules.{breach, name_of, s1}
 use Rattle.som_model.proofs.KeyLaws.{exact_bytes}
 use Rattle.som_verify_classes.specs.Modules.{module_of}
 use Rattle.som_verify_classes.specs.Places.{class_of_place, nobody}

@@ -1,9 +1,8 @@
 -- Compiling a level's texts comes to one thing, and the code to that.
-use Rattle.std.proofs.Common.{◌≡◌, ℕ, ◌≤◌, Bool, true, false, if◌then◌else◌, List, [], ◌∷◌, length, Option, Some, Result, Ok, Err, refl, sym, ap, ◌∙◌, subst}
+use Rattle.std.proofs.Common.{◌≡◌, ℕ, ◌≤◌, Bool, true, false, if◌then◌else◌, List, [], ◌∷◌, Option, Some, Result, Ok, Err, refl, sym, ap, ◌∙◌, subst}
 use Rattle.som_model.specs.declared.limits.TheConstants.{MAX_BYTES}
 use Rattle.som_model.specs.declared.program.ClientProgram.{ClientProgram}
 use Rattle.som_model.specs.declared.program.Interface.{Interface}
-use Rattle.som_model.specs.Conforming.{ProgramOk}
 use Rattle.som_ast.specs.declared.body.MainFile.{MainFile}
 use Rattle.som_cliimage.specs.Limits.{IsWithinLimits}
 use Rattle.som_sema_drafts.specs.declared.types.Refused.{Refused}

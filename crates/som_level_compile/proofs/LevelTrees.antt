@@ -1,5 +1,5 @@
 -- What the texts of a level stand for conforms, has room in its image, and fits the levels below it.
-use Rattle.std.proofs.Common.{◌≡◌, ℕ, ◌<◌, ◌≤◌, ◌^◌, Bool, true, false, if◌then◌else◌, List, [], ◌∷◌, length, Result, Ok, refl, sym, ap, ◌∙◌, subst, arith}
+use Rattle.std.proofs.Common.{◌≡◌, ℕ, ◌≤◌, Bool, true, false, if◌then◌else◌, List, [], ◌∷◌, length, Result, Ok, refl, sym, ap, ◌∙◌, subst, arith}
 use Rattle.std.specs.List.{AllByRecursion}
 use Rattle.som_model.specs.declared.limits.TheConstants.{MAX_BYTES}
 use Rattle.som_model.specs.declared.program.ClientProgram.{ClientProgram}
@@ -28,7 +28,6 @@ use Rattle.som_sources.proofs.TextsWithin.{IsShortMain, texts_within}
 use Rattle.som_compile.specs.Compiling.{IsBase, program_of}
 use Rattle.som_compile.proofs.FilesWithin.{bodies_within, interfaces_within}
 use Rattle.som_compile.proofs.ReleaseWithin.{program_within}
-use Rattle.som_towerimage.specs.declared.level.Level.{Level}
 use Rattle.som_towerimage.specs.Spelling.{FitsTower}
 use Rattle.som_level_compile.specs.CompilingLevels.{AreSizesBelow, IsMainOf, StandForLevel, empty_main}
 
