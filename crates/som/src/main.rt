@@ -19,6 +19,9 @@ usage: som library OUT FILE..
        som run CLIENT LIBRARY [--fuel N] [--trace [CLASS]]
        som tasks LIBRARY PATTERN ROUNDS CLIENT..
        som witness OUT OLD NEW
+       som tower make OUT BELOW.. FILE..
+       som tower check OLD NEW
+       som tower run CLIENT BELOW.. [--fuel N]
        som show IMAGE
        som generate N
 a FILE ends in .idl, .bod or .main; docs/COMMANDS.md tells the rest";
