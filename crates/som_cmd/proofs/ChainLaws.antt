@@ -1,5 +1,5 @@
 -- What `library` and `client` have put is what `run`, `show` and `check` ask for.
-use Rattle.std.proofs.Common.{◌≡◌, ◌≢◌, ◌≤◌, ℕ, Bool, List, [], ◌∷◌, ◌++◌, slice_get, Option, Some, refl, sym, ap, subst, ◌∙◌, inl, inr, arith}
+use Rattle.std.proofs.Common.{◌≡◌, ◌≢◌, ℕ, Bool, List, [], ◌∷◌, ◌++◌, slice_get, Option, Some, refl, sym, ap, subst, ◌∙◌, inl, inr, arith}
 use Rattle.std.specs.FinMap.{insert}
 use Rattle.som_model.specs.declared.program.ClientProgram.{ClientProgram}
 use Rattle.som_model.specs.declared.program.Release.{Release}
@@ -11,7 +11,7 @@ use Rattle.som_model.specs.Lists.{Mem}
 use Rattle.som_cmd_steps.specs.StoredImages.{IsClientUnder, IsUnder}
 use Rattle.som_cmd_build.specs.PutEnds.{HoldsClientTexts, HoldsTexts}
 use Rattle.som_cmd_build.proofs.PutFiles.{client_still_under, one_under, program_under, release_under, still_under}
-use Rattle.som_cmd.specs.Words.{Asked, Check, Run, Show}
+use Rattle.som_cmd.specs.Words.{Check, Run, Show}
 use Rattle.som_cmd.specs.Chain.{ClientPuts, LibraryPuts}
 use Rattle.som_cmd.specs.Ends.{AreChecked, AreNewest, IsImageOf, IsImageOfClient}
 use Rattle.som_cmd.specs.PutEnds.{PutsImage}

@@ -14,7 +14,6 @@ use Rattle.som_cmd_steps.proofs.Statuses.{differs}
 use Rattle.som_cmd_steps.specs.Endings.{Ending}
 use Rattle.som_cmd_steps.specs.Answering.{Answering}
 use Rattle.som_cmd_steps.specs.Outcomes as steps
-use Rattle.som_cmd_sources.specs.PutAnswer.{puts}
 use Rattle.som_cmd_build.proofs.PutEndLaws.{puts_by, puts_client_by}
 use Rattle.som_cmd_build.specs.LibraryAnswer.{IsLibraryAnswer}
 use Rattle.som_cmd_build.specs.ClientAnswer.{IsClientAnswer}
@@ -48,7 +47,7 @@ use Rattle.som_cmd_generate.specs.GenerateEnds.{TellsGenerated}
 use Rattle.som_cmd_generate.specs.Printing.{ShowsSomeOf}
 use Rattle.som_cmd.proofs.OneAnswer.{some_answer}
 use Rattle.som_cmd.specs.Words.{Asked, Bad, Library, Run, Show, Check, Client, Tasks, Witness, Generate}
-use Rattle.som_cmd.specs.Answer.{IsAnswer, bad_words, runs, shows, checks, bad_line, compiles, compiles_client, takes_turns, shows_breach, generates}
+use Rattle.som_cmd.specs.Answer.{IsAnswer, bad_words, runs, shows, checks, bad_line, compiles, compiles_client, takes_turns, shows_breach}
 use Rattle.som_cmd.specs.Cause.{FailsOn}
 use Rattle.som_cmd.specs.Ends.{EndsAsTold, StoreFails, ShowsSome, AreImagesOf, AreNewest, AreNewestTasks, AreTasksOf, IsImageOf, IsImageOfClient, AreChecked}
 use Rattle.som_cmd.specs.Generating.{Generates, GeneratesAsked, IsMadeFor}

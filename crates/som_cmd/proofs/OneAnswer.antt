@@ -9,7 +9,7 @@ use Rattle.som_cmd_run.specs.RunAnswer.{run_ending}
 use Rattle.som_cmd_tasks.specs.TasksAnswer.{tasks_ending}
 use Rattle.som_cmd_witness.proofs.WitnessLaws.{one_witness_answer, some_witness_answer}
 use Rattle.som_cmd_generate.proofs.AnswerLaws.{one_generate_answer, some_generate_answer}
-use Rattle.som_cmd_tower_check.specs.TowerCheckAnswer.{line_ending, line_of}
+use Rattle.som_cmd_tower_check.specs.TowerCheckAnswer.{line_ending, line_told}
 use Rattle.som_cmd_tower_make.proofs.TowerAnswered as making
 use Rattle.som_cmd_tower_run.specs.TowerRunAnswer.{tower_run_ending}
 use Rattle.som_cmd_towers.specs.Answer.{IsTowerAnswer}
@@ -21,7 +21,7 @@ use Rattle.som_cmd.proofs.WordLaws.{IsAnswerable}
 -- there is an answer to what is asked for of towers
 some_tower_answer : (files : Files) (what : TowerAsked) → IsFormed what → (told : Ending) × IsTowerAnswer what files told
 some_tower_answer files (Make out below names) formed = making.tower_answer files out below names formed.some formed.few formed.one_main
-some_tower_answer files (Compare old new) formed = (line_ending files (line_of old new files), refl)
+some_tower_answer files (Compare old new) formed = (line_ending files (line_told old new files), refl)
 some_tower_answer files (RunOn client below fuel) formed = (tower_run_ending client below fuel files, refl)
 
 -- and no other

@@ -1,10 +1,9 @@
 -- What `witness` has put is a client that is refused on the newer release, and the texts that it prints are compiled to it.
-use Rattle.std.proofs.Common.{◌≡◌, ◌≢◌, ◌≤◌, ◌+◌, ℕ, Bool, true, false, ◌&&◌, if◌then◌else◌, List, [], ◌∷◌, length, codes, Option, Some, Result, Ok, Err, refl, sym, ap, subst, ◌∙◌, inl, inr, arith}
+use Rattle.std.proofs.Common.{◌≡◌, ◌≢◌, ◌≤◌, ◌+◌, ℕ, Bool, true, false, ◌&&◌, if◌then◌else◌, List, [], ◌∷◌, length, codes, Option, Some, Result, Ok, refl, sym, ap, subst, ◌∙◌, inl, inr, arith}
 use Rattle.std.specs.FinMap.{get, insert}
 use Rattle.std.specs.Option.{ok_or}
 use Rattle.som_model.specs.declared.limits.TheConstants.{MAX_BYTES}
 use Rattle.som_model.specs.declared.program.ClientProgram.{ClientProgram}
-use Rattle.som_model.specs.declared.program.Interface.{Interface}
 use Rattle.som_model.specs.declared.program.Release.{Release}
 use Rattle.som_model.specs.Bytes.{Files}
 use Rattle.som_model.specs.Class.{interface_of}
@@ -24,7 +23,7 @@ use Rattle.som_witness_laws.proofs.Clients.{recompiled, refused}
 use Rattle.som_cmd_steps.specs.declared.stop.Refusal.{Refusal}
 use Rattle.som_cmd_steps.specs.Fetching.{file_of}
 use Rattle.som_cmd_steps.specs.Lines.{absent}
-use Rattle.som_cmd_steps.specs.StoredImages.{IsClientUnder, IsUnder}
+use Rattle.som_cmd_steps.specs.StoredImages.{IsUnder}
 use Rattle.som_cmd_sources.specs.Texts.{text_in, texts_after}
 use Rattle.som_cmd_sources.proofs.TextLaws.{text_got}
 use Rattle.som_cmd_build.proofs.PutFiles.{client_still_under, get_put, still_under}

@@ -8,10 +8,10 @@ use Rattle.som_model.specs.declared.limits.TheConstants.{DEFAULT_FUEL}
 use Rattle.som_model.specs.Lists.{every}
 use Rattle.som_sources.specs.Sources.{is_main, mains_in}
 use Rattle.som_cmd_tasks.specs.declared.limits.TheConstants.{MAX_PATTERN, MAX_ROUNDS}
-use Rattle.som_cmd_tasks.specs.Patterns.{AreTurns, names_client, turns_given}
+use Rattle.som_cmd_tasks.specs.Patterns.{AreTurns, names_client}
 use Rattle.som_cmd_tasks.proofs.Turning.{pattern_turns}
 use Rattle.som_generator.specs.declared.limits.TheConstants.{MAX_CLASSES}
-use Rattle.som_cmd.specs.Words.{Asked, Show, Check, Library, Client, Tasks, Witness, Generate, Tower, Bad, are_clients, are_files, asked, asked_of, client_asked, from_one_to, fuel_of, generate_asked, generate_with, is_file, is_name, is_pattern, library_asked, rounds_of, run_asked, run_with, tasks_asked, tower_asked, are_levels, are_texts, compare_asked, count_before, fuel_in, is_fuel_flag, make_asked, run_on_asked, run_on_with, trace_in, turns_with, witness_asked}
+use Rattle.som_cmd.specs.Words.{Asked, Show, Check, Library, Client, Tasks, Witness, Generate, Tower, Bad, are_clients, are_files, asked, asked_of, client_asked, from_one_to, fuel_of, generate_asked, generate_with, is_file, is_name, library_asked, rounds_of, run_asked, run_with, tasks_asked, tower_asked, are_levels, are_texts, compare_asked, count_before, fuel_in, is_fuel_flag, make_asked, run_on_asked, run_on_with, trace_in, turns_with, witness_asked}
 use Rattle.som_towerimage.specs.declared.level.TheConstants.{MAX_BELOW_CLIENT}
 use Rattle.som_towerimage.specs.Spelling.{most_below}
 use Rattle.som_cmd_tower_make.specs.TowerMakeAnswer.{has_main}
