@@ -24,3 +24,4 @@ pub mod PlainBodies
 pub mod PlainWhole
 pub mod Outlines
 pub mod FacesOnly
+mod Membership

@@ -30,10 +30,5 @@ pub fn item(known: &[List<usize>], place: usize) -> &[usize]
 pub fn has_place(list: &[usize], place: usize) -> bool
     ensures { result ≡ some (λ a. place == a) list.now }
 {
-    for other in list {
-        if place == *other {
-            return true;
-        }
-    }
-    false
+    list.contains(&place)
 }
