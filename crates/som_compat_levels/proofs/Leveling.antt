@@ -13,7 +13,8 @@ use Rattle.som_model_laws.proofs.Members.{mem_split}
 use Rattle.som_model_laws.proofs.Lists.{map_mem}
 use Rattle.som_compat.specs.Conditions.{IsCounted}
 use Rattle.som_level_laws.specs.Levels.{CompatibleLevels, all_levels, breaks_from, classes_of_level, first_level_break, level_class_breaks, level_classes, level_module, levels_from}
-use Rattle.som_level_laws.proofs.Breaks.{none_kept}
+use Rattle.som_level_laws.proofs.Breaks.{kept_none, none_kept}
+use Rattle.som_release_laws.proofs.Along.{kept_itself}
 use Rattle.som_verify_classes.specs.Modules.{module_of}
 use Rattle.som_verify_classes.specs.Places.{class_of_place, nobody}
 use Rattle.som_verify_classes.proofs.DeclaredClasses.{long_map, module_there}
@@ -170,3 +171,10 @@ module _ (O N : List Class) (i level : ℕ) (lt : i < length O) (level_at : leve
       ap (λ (z : ℕ). Some (z, b)) level_at
       ∙ stops (leveled_breaks O N at) (flat_map (leveled_breaks O N) (drop (i + 1) O)) (with_level b) (sym (first_mapped with_level (level_class_breaks O N at) b (sym e)))
       ∙ ap first (sym split)
+
+-- levels that are the same keep all
+pub same_keep : (olds news : List Interface) → AreComparable olds news → olds ≡ news → (first_level_break olds news ≡ None) × CompatibleLevels olds news
+same_keep olds news c e =
+    let kept : CompatibleLevels olds olds = kept_itself (level_classes olds) c.old.faces in
+    subst (λ (z : List Interface). (first_level_break olds z ≡ None) × CompatibleLevels olds z) e
+    (kept_none olds olds c.old.faces.ordered c.old.faces.ordered kept, kept)

@@ -14,6 +14,7 @@ use crate::breach::{LevelFault, owned_breach};
 use crate::classes::{PlacedClass, all_classes};
 use crate::finding::sorted_places;
 use crate::pair::class_keeps;
+use crate::same_levels::are_same;
 use crate::tables::{Levels, tables_of};
 use som_builtins::kernel_faces;
 use som_compat::Breach;
@@ -22,8 +23,24 @@ use som_verify_classes::KERNEL_CLASSES;
 use std::alloc::Global;
 
 /// Whether newer levels keep what older ones promise, and else what they break first: by the old levels, then
-/// by class order, by rule and by place.
+/// by class order, by rule and by place. Levels that are the same keep all, and no table is made of them.
 pub fn compatible_levels(
+    alloc: Global,
+    olds: &List<Interface>,
+    news: &List<Interface>,
+) -> Result<(), LevelFault>
+    requires { AreComparable olds.now news.now }
+    ensures tells { TellsLevels (first_level_break olds.now news.now) result }
+    ensures kept { IfOk result (λ _. CompatibleLevels olds.now news.now) }
+{
+    if are_same(olds, news) {
+        return Ok(());
+    }
+    compare_all(alloc, olds, news)
+}
+
+// Compares levels class by class.
+fn compare_all(
     alloc: Global,
     olds: &List<Interface>,
     news: &List<Interface>,

@@ -13,6 +13,7 @@ mod numbers;
 mod owners;
 mod pair;
 mod rows;
+mod same_levels;
 mod tables;
 mod versions;
 

@@ -1,11 +1,8 @@
-use Rattle.std.proofs.Common.{List, subst}
-use Rattle.som_model.specs.declared.program.Interface.{Interface}
-use Rattle.som_level_laws.specs.Levels.{first_level_break}
-use Rattle.som_compat_levels.specs.Told.{TellsLevels}
-use Rattle.som_compat_levels.proofs.Leveling.{kept_levels}
+use Rattle.som_compat_levels.proofs.Leveling.{same_keep}
 use Rattle.som_compat_levels.proofs.levels.compatible_levels.Goals as goal
 
-pub returns-clause-kept : goal.returns-clause-kept
-returns-clause-kept c = kept_levels c.args.olds.now c.args.news.now c.compare_above.result c.requires
-    (subst (λ (z : List Interface). TellsLevels (first_level_break c.args.olds.now z) c.compare_above.result) c.as_slice-2.ensures
-    (subst (λ (z : List Interface). TellsLevels (first_level_break z c.as_slice-2.result.now) c.compare_above.result) c.as_slice.ensures c.compare_above.ensures))
+pub returns-then-are_same-clause-tells : goal.returns-then-are_same-clause-tells
+returns-then-are_same-clause-tells c = (same_keep c.args.olds.now c.args.news.now c.requires (c.are_same.ensures c.if-are_same.true)).0
+
+pub returns-then-are_same-clause-kept : goal.returns-then-are_same-clause-kept
+returns-then-are_same-clause-kept c = (same_keep c.args.olds.now c.args.news.now c.requires (c.are_same.ensures c.if-are_same.true)).1
