@@ -3,7 +3,7 @@
 ghost use Rattle.som_model.specs.Lists.{Mem, joined, some};
 ghost use Rattle.som_model_laws.specs.Once.{add_new, adds};
 ghost use Rattle.som_model_laws.specs.Rows.{AreAncestors, AreLow, AreMarks};
-ghost use Rattle.std.specs.Prelude.{◌≡◌, ◌==◌, ℕ, ◌+◌, ◌<◌, ◌≤◌, ◌∷◌, [], map, length, slice_index_or, IfOk, OnOk};
+ghost use Rattle.std.specs.Prelude.{◌≡◌, ◌==◌, ℕ, ◌+◌, ◌<◌, ◌≤◌, ◌∷◌, ◌++◌, [], map, length, slice_index_or, IfOk, OnOk};
 
 use som_model::{List, NoMemory};
 use som_verify_classes::item;
@@ -32,14 +32,76 @@ fn ancestors_of(
     requires place { length known.now ≡ place }
     requires row { (p : ℕ) → Mem p row.now → p < length known.now }
     requires low { (p a : ℕ) → Mem a (slice_index_or known.now p []) → a ≤ p }
+    requires once { (p : ℕ) → adds ◌==◌ [] (slice_index_or known.now p []) ≡ slice_index_or known.now p [] }
     ensures { IfOk result (λ list. list ≡ adds ◌==◌ [] (place ∷ joined (map (λ p. slice_index_or known.now p []) row.now))) }
 {
-    let mut list = List::new(alloc);
+    match row.split_first() {
+        Some((first, others)) => ancestors_under(alloc, known, *first, others, place),
+        None => List::from_slice(alloc, &[place]),
+    }
+}
+
+// The ancestors of a class with a first parent and others: the first one's are noted as they are.
+fn ancestors_under(
+    alloc: Global,
+    known: &[List<usize>],
+    first: usize,
+    others: &[usize],
+    place: usize,
+) -> Result<List<usize>, NoMemory>
+    requires place { length known.now ≡ place }
+    requires first { first < length known.now }
+    requires others { (p : ℕ) → Mem p others.now → p < length known.now }
+    requires low { (p a : ℕ) → Mem a (slice_index_or known.now p []) → a ≤ p }
+    requires once { (p : ℕ) → adds ◌==◌ [] (slice_index_or known.now p []) ≡ slice_index_or known.now p [] }
+    ensures { IfOk result (λ list. list ≡ adds ◌==◌ [] (place ∷ (slice_index_or known.now first [] ++ joined (map (λ p. slice_index_or known.now p []) others.now)))) }
+{
+    let mut list = with_above(alloc, place, item(known, first))?;
+    note_others(alloc, &mut list, known, others)?;
+    Ok(list)
+}
+
+// A class, and those above it.
+fn with_above(alloc: Global, place: usize, above: &[usize]) -> Result<List<usize>, NoMemory>
+    ensures { IfOk result (λ list. list ≡ place ∷ above.now) }
+{
+    let mut list = List::with_room(alloc, above.len().saturating_add(1))?;
+    list.push(place)?;
+    list.extend_from_slice(above)?;
+    Ok(list)
+}
+
+// The ancestors of further parents, as far as they aren't on the list.
+fn note_others(
+    alloc: Global,
+    list: &mut List<usize>,
+    known: &[List<usize>],
+    others: &[usize],
+) -> Result<(), NoMemory>
+    requires list { (a : ℕ) → Mem a list.old → a ≤ length known.now }
+    requires others { (p : ℕ) → Mem p others.now → p < length known.now }
+    requires low { (p a : ℕ) → Mem a (slice_index_or known.now p []) → a ≤ p }
+    ensures { OnOk result (list.new ≡ adds ◌==◌ list.old (joined (map (λ p. slice_index_or known.now p []) others.now))) }
+{
+    if others.is_empty() {
+        return Ok(());
+    }
     let mut marks = Vec::new(alloc);
     marks.resize(known.len() + 1, false)?;
-    note(&mut list, &mut marks, place)?;
-    note_parents(&mut list, &mut marks, known, row)?;
-    Ok(list)
+    mark_all(&mut marks, list.as_slice());
+    note_parents(list, &mut marks, known, others)
+}
+
+// Marks all of a list, where nothing is marked.
+fn mark_all(marks: &mut [bool], list: &[usize])
+    requires list { (a : ℕ) → Mem a list.now → a < length marks.old }
+    requires clear { AreMarks marks.old [] }
+    ensures marks { AreMarks marks.new list.now }
+    ensures long { length marks.new ≡ length marks.old }
+{
+    for class in list {
+        marks[*class] = true;
+    }
 }
 
 fn note_parents(

@@ -1,5 +1,6 @@
 use Rattle.std.proofs.Common.{arith, ap, length}
 use Rattle.som_model_laws.proofs.Listed.{known_low, next_of}
+use Rattle.som_verify_parents.proofs.FirstParent.{known_once}
 use Rattle.som_verify_parents.proofs.ancestry.ancestors.Goals as goal
 
 pub ancestors_of-requires-clause-row : goal.ancestors_of-requires-clause-row
@@ -12,3 +13,6 @@ ancestors_of-requires-clause-low c = λ p a m. known_low c.args.rows.now c.loop-
 
 pub loop-place-preserved : goal.loop-place-preserved
 loop-place-preserved c = rw c.in_ok-push.ensures.items (next_of c.args.rows.now c.loop-place.place c.loop-place.all.items _ c.item.result.now c.in_ok-list.list c.requires c.loop-place.invariant c.item.ensures c.deref.ensures.value c.in_ok-list.ensures)
+
+pub ancestors_of-requires-clause-once : goal.ancestors_of-requires-clause-once
+ancestors_of-requires-clause-once c = rw c.deref.ensures.value (known_once c.args.rows.now c.loop-place.place c.loop-place.all.items c.requires c.loop-place.invariant)
