@@ -70,7 +70,7 @@ fn local_takes(
                 fits,
                 Stmt::SetLocal {
                     local,
-                    value: expr.into_inner(),
+                    value: expr,
                 },
             )
         }
@@ -125,7 +125,7 @@ fn variable_takes(
                     fits,
                     Stmt::SetVariable {
                         variable,
-                        value: expr.into_inner(),
+                        value: expr,
                     },
                 )
             }
@@ -166,7 +166,7 @@ fn answer_value(
         19,
         is_answer(context, kind),
         Stmt::ReturnValue {
-            value: expr.into_inner(),
+            value: expr,
         },
     )
 }
@@ -201,7 +201,7 @@ pub fn print(
         17,
         has_text(kind),
         Stmt::Print {
-            value: expr.into_inner(),
+            value: expr,
         },
     )
 }
@@ -222,7 +222,7 @@ pub fn free(
         17,
         is_object(kind),
         Stmt::Free {
-            value: expr.into_inner(),
+            value: expr,
         },
     )
 }
@@ -244,7 +244,7 @@ pub fn call(
         20,
         stands,
         Stmt::Call {
-            call: expr.into_inner(),
+            call: expr,
         },
     )
 }
