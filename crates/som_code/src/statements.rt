@@ -74,7 +74,13 @@ fn emit_stmt(
             emit_expr(alloc, code, condition.get())?;
             emit_choice(alloc, code, locals, then.get(), other.get())
         }
-        Stmt::While { condition, block } => emit_loop(alloc, code, locals, condition.get(), block.get()),
+        Stmt::While { condition, block } => emit_loop(
+            alloc,
+            code,
+            locals,
+            condition.get(),
+            block.get(),
+        ),
         Stmt::Return => emit(code, Instruction::Return),
         Stmt::ReturnValue { value } => {
             emit_expr(alloc, code, value.get())?;

@@ -91,7 +91,14 @@ fn number_stmt(
             condition,
             then,
             other,
-        } => number_if(alloc, directory, names, condition.get(), then.get(), other.get()),
+        } => number_if(
+            alloc,
+            directory,
+            names,
+            condition.get(),
+            then.get(),
+            other.get(),
+        ),
         Stmt::While { condition, block } => {
             number_while(alloc, directory, names, condition.get(), block.get())
         }

@@ -37,7 +37,12 @@ fn note_stmt(alloc: Global, statement: &Stmt, named: &mut List<ClassKey>) -> Res
             then,
             other,
         } => note_choice(alloc, condition.get(), then.get(), other.get(), named),
-        Stmt::While { condition, block } => note_guarded(alloc, condition.get(), block.get(), named),
+        Stmt::While { condition, block } => note_guarded(
+            alloc,
+            condition.get(),
+            block.get(),
+            named,
+        ),
         Stmt::Return => Ok(()),
         Stmt::ReturnValue { value } => note_expr(alloc, value.get(), named),
         Stmt::Print { value } => note_expr(alloc, value.get(), named),

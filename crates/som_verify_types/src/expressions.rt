@@ -134,7 +134,12 @@ fn call_in(alloc: Global, code: &Code, call: &Expr) -> Result<Kind, TypeFault>
             parent,
             method,
             args,
-        } => parent_call(code, *parent as usize, method.get(), values_in(alloc, code, args)),
+        } => parent_call(
+            code,
+            *parent as usize,
+            method.get(),
+            values_in(alloc, code, args),
+        ),
         Expr::ParentsCall { method, args } => {
             parents_call(code, method.get(), values_in(alloc, code, args))
         }

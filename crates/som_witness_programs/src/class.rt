@@ -15,8 +15,8 @@ use crate::expressions::{call_on_c, only, zero_values, zero_values_with};
 use crate::keys::kernel_key;
 use crate::showing::Showing;
 use som_model::{
-    Block, Body, Boxed, ClassDecl, ClassFace, ClassKey, Entry, Expr, List, MethodRef, NoMemory, Override,
-    Sig, Stmt, Text, ValueType, Variable, Way,
+    Block, Body, Boxed, ClassDecl, ClassFace, ClassKey, Entry, Expr, List, MethodRef, NoMemory,
+    Override, Sig, Stmt, Text, ValueType, Variable, Way,
 };
 use std::alloc::Global;
 
