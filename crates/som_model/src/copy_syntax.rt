@@ -242,13 +242,6 @@ impl Block {
         }
         Ok(Block { statements: copies })
     }
-
-    #[cycle(copy_block)]
-    fn copy_boxed(&self, alloc: Global) -> Result<Boxed<Block>, NoMemory>
-        ensures { IfOk result (λ block. block ≡ self.now) }
-    {
-        Boxed::new(alloc, self.copy(alloc)?)
-    }
 }
 
 impl Stmt {
@@ -306,8 +299,8 @@ fn copy_if(
 ) -> Result<Stmt, NoMemory>
     ensures { IfOk result (λ statement. statement ≡ Stmt.If condition.now then.now other.now) }
 {
-    let then = then.copy_boxed(alloc)?;
-    let other = other.copy_boxed(alloc)?;
+    let then = Boxed::new(alloc, then.copy(alloc)?)?;
+    let other = Boxed::new(alloc, other.copy(alloc)?)?;
     let condition = copy_boxed(alloc, condition)?;
     Ok(Stmt::If {
         condition,
@@ -320,7 +313,7 @@ fn copy_if(
 fn copy_while(alloc: Global, condition: &Boxed<Expr>, block: &Block) -> Result<Stmt, NoMemory>
     ensures { IfOk result (λ statement. statement ≡ Stmt.While condition.now block.now) }
 {
-    let block = block.copy_boxed(alloc)?;
+    let block = Boxed::new(alloc, block.copy(alloc)?)?;
     let condition = copy_boxed(alloc, condition)?;
     Ok(Stmt::While { condition, block })
 }

@@ -85,9 +85,9 @@ fn kind_in(alloc: Global, code: &Code, expr: &Expr) -> Result<Kind, TypeFault>
         Expr::New(class) => ruled(new_kind(&code.known, class.get())),
         Expr::Class(class) => ruled(class_kind(&code.known, class.get())),
         Expr::Manager => Ok(Kind::Class(SOM_CLASS_MGR)),
-        Expr::Cast { class, of } => cast(code, class.get(), value_in(alloc, code, of.get())),
-        Expr::Isa { class, of } => isa(code, class.get(), value_in(alloc, code, of.get())),
-        Expr::Proxy { class, of } => proxy(code, class.get(), value_in(alloc, code, of.get())),
+        Expr::Cast { class, of } => cast(code, class, value_in(alloc, code, of.get())),
+        Expr::Isa { class, of } => isa(code, class, value_in(alloc, code, of.get())),
+        Expr::Proxy { class, of } => proxy(code, class, value_in(alloc, code, of.get())),
         Expr::Host { a, b, .. } => {
             let left = value_in(alloc, code, a.get())?;
             host(left, value_in(alloc, code, b.get()))
@@ -110,7 +110,7 @@ fn call_in(alloc: Global, code: &Code, call: &Expr) -> Result<Kind, TypeFault>
             args,
         } => {
             let receiver = value_in(alloc, code, receiver.get())?;
-            offset_call(code, method.get(), receiver, values_in(alloc, code, args))
+            offset_call(code, method, receiver, values_in(alloc, code, args))
         }
         Expr::Lookup {
             result: answer,
@@ -119,7 +119,7 @@ fn call_in(alloc: Global, code: &Code, call: &Expr) -> Result<Kind, TypeFault>
             ..
         } => {
             let receiver = value_in(alloc, code, receiver.get())?;
-            named_call(code, answer.get(), receiver, values_in(alloc, code, args))
+            named_call(code, answer, receiver, values_in(alloc, code, args))
         }
         Expr::Dispatch {
             result: answer,
@@ -128,20 +128,15 @@ fn call_in(alloc: Global, code: &Code, call: &Expr) -> Result<Kind, TypeFault>
             ..
         } => {
             let receiver = value_in(alloc, code, receiver.get())?;
-            named_call(code, answer.get(), receiver, values_in(alloc, code, args))
+            named_call(code, answer, receiver, values_in(alloc, code, args))
         }
         Expr::ParentCall {
             parent,
             method,
             args,
-        } => parent_call(
-            code,
-            *parent as usize,
-            method.get(),
-            values_in(alloc, code, args),
-        ),
+        } => parent_call(code, *parent as usize, method, values_in(alloc, code, args)),
         Expr::ParentsCall { method, args } => {
-            parents_call(code, method.get(), values_in(alloc, code, args))
+            parents_call(code, method, values_in(alloc, code, args))
         }
         _ => unreachable!(),
     }
