@@ -40,12 +40,12 @@ pub(crate) fn emit_expr(
             emit_part(alloc, code, left)?;
             emit_right(alloc, code, *op, right)
         }
-        Expr::New(class) => emit_new(alloc, code, class),
-        Expr::Class(class) => emit_class(alloc, code, class),
+        Expr::New(class) => emit_new(alloc, code, class.get()),
+        Expr::Class(class) => emit_class(alloc, code, class.get()),
         Expr::Manager => emit(code, Instruction::Manager),
-        Expr::Cast { class, of } => emit_cast(alloc, code, of, class),
-        Expr::Isa { class, of } => emit_isa(alloc, code, of, class),
-        Expr::Proxy { class, of } => emit_proxy(alloc, code, of, class),
+        Expr::Cast { class, of } => emit_cast(alloc, code, of, class.get()),
+        Expr::Isa { class, of } => emit_isa(alloc, code, of, class.get()),
+        Expr::Proxy { class, of } => emit_proxy(alloc, code, of, class.get()),
         Expr::Host { code: host, a, b } => emit_host_call(alloc, code, *host, a, b),
         _ => emit_call(alloc, code, e),
     }
@@ -140,25 +140,25 @@ fn emit_call(alloc: Global, code: &mut Vec<Instruction>, e: &Expr) -> Result<(),
             method,
             receiver,
             args,
-        } => emit_offset_call(alloc, code, method, args, receiver),
+        } => emit_offset_call(alloc, code, method.get(), args, receiver),
         Expr::Lookup {
             result: kind,
             name,
             receiver,
             args,
-        } => emit_lookup(alloc, code, kind, name, args, receiver),
+        } => emit_lookup(alloc, code, kind.get(), name.get(), args, receiver),
         Expr::Dispatch {
             result: kind,
             name,
             receiver,
             args,
-        } => emit_dispatch(alloc, code, kind, name, args, receiver),
+        } => emit_dispatch(alloc, code, kind.get(), name.get(), args, receiver),
         Expr::ParentCall {
             parent,
             method,
             args,
-        } => emit_parent_call(alloc, code, *parent, method, args),
-        Expr::ParentsCall { method, args } => emit_parents_call(alloc, code, method, args),
+        } => emit_parent_call(alloc, code, *parent, method.get(), args),
+        Expr::ParentsCall { method, args } => emit_parents_call(alloc, code, method.get(), args),
         _ => unreachable!(),
     }
 }

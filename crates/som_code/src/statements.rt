@@ -55,15 +55,15 @@ fn emit_stmt(
 {
     match statement {
         Stmt::Var { value, .. } => {
-            emit_expr(alloc, code, value)?;
+            emit_expr(alloc, code, value.get())?;
             emit(code, Instruction::Set(locals))
         }
         Stmt::SetLocal { local, value } => {
-            emit_expr(alloc, code, value)?;
+            emit_expr(alloc, code, value.get())?;
             emit_set(code, *local as usize, locals)
         }
         Stmt::SetVariable { variable, value } => {
-            emit_expr(alloc, code, value)?;
+            emit_expr(alloc, code, value.get())?;
             emit(code, Instruction::SetVariable(*variable))
         }
         Stmt::If {
@@ -71,22 +71,28 @@ fn emit_stmt(
             then,
             other,
         } => {
-            emit_expr(alloc, code, condition)?;
-            emit_choice(alloc, code, locals, then, other)
+            emit_expr(alloc, code, condition.get())?;
+            emit_choice(alloc, code, locals, then.get(), other.get())
         }
-        Stmt::While { condition, block } => emit_loop(alloc, code, locals, condition, block),
+        Stmt::While { condition, block } => emit_loop(
+            alloc,
+            code,
+            locals,
+            condition.get(),
+            block.get(),
+        ),
         Stmt::Return => emit(code, Instruction::Return),
         Stmt::ReturnValue { value } => {
-            emit_expr(alloc, code, value)?;
+            emit_expr(alloc, code, value.get())?;
             emit(code, Instruction::ReturnValue)
         }
         Stmt::Print { value } => {
-            emit_expr(alloc, code, value)?;
+            emit_expr(alloc, code, value.get())?;
             emit(code, Instruction::Print)
         }
-        Stmt::Free { value } => emit_free(alloc, code, value),
+        Stmt::Free { value } => emit_free(alloc, code, value.get()),
         Stmt::Call { call } => {
-            emit_expr(alloc, code, call)?;
+            emit_expr(alloc, code, call.get())?;
             emit(code, Instruction::Drop)
         }
     }

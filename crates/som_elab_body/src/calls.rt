@@ -13,7 +13,7 @@ use crate::methods::{FoundMethod, method_for, method_ref};
 use crate::parts::{Parts, formed};
 use crate::typed_expr::TypedExpr;
 use som_ast::TypeName;
-use som_model::{Expr, Text, ValueType, Way};
+use som_model::{Boxed, Expr, Text, ValueType, Way};
 use som_sema_scope::result_of;
 use som_verify_forms::{TypeFault, all_fit, named_call_kind, offset_call_kind};
 use std::alloc::Global;
@@ -75,10 +75,11 @@ fn offset_call(
     ensures { Makes (classes_at context.now) (offset_by (facts_at context.now) (record { class = key_at (classes_at context.now) class; name = name.now })
         (typed_at (classes_at context.now) on) (parts_at (classes_at context.now) args)) result }
 {
-    let method = method_ref(alloc, &context.known, class, name)?;
+    let found = method_ref(alloc, &context.known, class, name)?;
     let TypedExpr { expr, kind } = on;
     let Parts { exprs, kinds } = args;
-    let kind = offset_call_kind(&context.known, &method, kind, kinds.as_slice());
+    let kind = offset_call_kind(&context.known, &found, kind, kinds.as_slice());
+    let method = Boxed::new(alloc, found)?;
     let receiver = expr;
     formed(
         alloc,
@@ -108,8 +109,8 @@ fn fitting_lookup(
 {
     let sig = method.sig;
     if all_fit(&context.known, sig.params.as_slice(), args.kinds.as_slice()) {
-        let name = name.copy(alloc)?;
-        let answer = sig.result.copy(alloc)?;
+        let name = name.copy_boxed(alloc)?;
+        let answer = sig.result.copy_boxed(alloc)?;
         lookup(alloc, context, answer, on, name, args)
     } else {
         Err(TypeFault::Rule(18))
@@ -120,9 +121,9 @@ fn fitting_lookup(
 fn lookup(
     alloc: Global,
     context: &BodyContext,
-    answer: ValueType,
+    answer: Boxed<ValueType>,
     on: TypedExpr,
-    name: Text,
+    name: Boxed<Text>,
     args: Parts,
 ) -> Result<TypedExpr, TypeFault>
     requires context { IsBodyContext context.now }
@@ -132,7 +133,7 @@ fn lookup(
 {
     let TypedExpr { expr, kind } = on;
     let Parts { exprs, kinds } = args;
-    let kind = named_call_kind(&context.known, &answer, kind, kinds.as_slice());
+    let kind = named_call_kind(&context.known, answer.get(), kind, kinds.as_slice());
     let receiver = expr;
     formed(
         alloc,
@@ -160,8 +161,9 @@ pub fn lookup_call(
     requires args { AreParts (classes_at context.now) args }
     ensures { Makes (classes_at context.now) (spec.lookup_form (among_at context.now) answer.now (typed_at (classes_at context.now) on) name.now (parts_at (classes_at context.now) args)) result }
 {
-    let name = name.copy(alloc)?;
-    let answer = result_of(alloc, context.scope, answer)?;
+    let name = name.copy_boxed(alloc)?;
+    let result = result_of(alloc, context.scope, answer)?;
+    let answer = Boxed::new(alloc, result)?;
     lookup(alloc, context, answer, on, name, args)
 }
 
@@ -179,8 +181,9 @@ pub fn dispatch_call(
     requires args { AreParts (classes_at context.now) args }
     ensures { Makes (classes_at context.now) (spec.dispatch_form (among_at context.now) answer.now (typed_at (classes_at context.now) on) name.now (parts_at (classes_at context.now) args)) result }
 {
-    let name = name.copy(alloc)?;
-    let answer = result_of(alloc, context.scope, answer)?;
+    let name = name.copy_boxed(alloc)?;
+    let result = result_of(alloc, context.scope, answer)?;
+    let answer = Boxed::new(alloc, result)?;
     dispatch(alloc, context, answer, on, name, args)
 }
 
@@ -188,9 +191,9 @@ pub fn dispatch_call(
 fn dispatch(
     alloc: Global,
     context: &BodyContext,
-    answer: ValueType,
+    answer: Boxed<ValueType>,
     on: TypedExpr,
-    name: Text,
+    name: Boxed<Text>,
     args: Parts,
 ) -> Result<TypedExpr, TypeFault>
     requires context { IsBodyContext context.now }
@@ -200,7 +203,7 @@ fn dispatch(
 {
     let TypedExpr { expr, kind } = on;
     let Parts { exprs, kinds } = args;
-    let kind = named_call_kind(&context.known, &answer, kind, kinds.as_slice());
+    let kind = named_call_kind(&context.known, answer.get(), kind, kinds.as_slice());
     let receiver = expr;
     formed(
         alloc,

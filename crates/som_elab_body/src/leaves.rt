@@ -13,7 +13,7 @@ use crate::local::Local;
 use crate::names::{local_of, variable_place};
 use crate::parts::formed;
 use crate::typed_expr::TypedExpr;
-use som_model::{Expr, Text};
+use som_model::{Boxed, Expr, Text};
 use som_sema_scope::key_of;
 use som_verify_forms::{Kind, TypeFault, class_kind, new_kind, self_kind, variable_kind};
 use std::alloc::Global;
@@ -72,8 +72,9 @@ pub fn new_object(alloc: Global, context: &BodyContext, name: &[u8]) -> Result<T
     requires { IsBodyContext context.now }
     ensures { Makes (classes_at context.now) (spec.new_form (among_at context.now) name.now) result }
 {
-    let class = key_of(alloc, context.scope, name)?;
-    let kind = new_kind(&context.known, &class);
+    let key = key_of(alloc, context.scope, name)?;
+    let kind = new_kind(&context.known, &key);
+    let class = Boxed::new(alloc, key)?;
     formed(alloc, Expr::New(class), kind)
 }
 
@@ -86,7 +87,8 @@ pub fn class_object(
     requires { IsBodyContext context.now }
     ensures { Makes (classes_at context.now) (spec.class_form (among_at context.now) name.now) result }
 {
-    let class = key_of(alloc, context.scope, name)?;
-    let kind = class_kind(&context.known, &class);
+    let key = key_of(alloc, context.scope, name)?;
+    let kind = class_kind(&context.known, &key);
+    let class = Boxed::new(alloc, key)?;
     formed(alloc, Expr::Class(class), kind)
 }

@@ -9,7 +9,7 @@ ghost use Rattle.std.specs.Prelude.{List as Seq};
 use crate::body_context::BodyContext;
 use crate::parts::formed;
 use crate::typed_expr::TypedExpr;
-use som_model::{Expr, HostCode};
+use som_model::{Boxed, Expr, HostCode};
 use som_sema_scope::key_of;
 use som_verify_forms::{
     TypeFault, binary_kind, cast_kind, host_kind, isa_kind, proxy_kind, unary_kind,
@@ -66,8 +66,9 @@ pub fn cast(
     ensures { Makes (classes_at context.now) (spec.cast_form (among_at context.now) name.now (typed_at (classes_at context.now) part)) result }
 {
     let TypedExpr { expr: of, kind } = part;
-    let class = key_of(alloc, context.scope, name)?;
-    let kind = cast_kind(&context.known, &class, kind);
+    let key = key_of(alloc, context.scope, name)?;
+    let kind = cast_kind(&context.known, &key, kind);
+    let class = Boxed::new(alloc, key)?;
     formed(alloc, Expr::Cast { class, of }, kind)
 }
 
@@ -83,8 +84,9 @@ pub fn isa(
     ensures { Makes (classes_at context.now) (spec.isa_form (among_at context.now) name.now (typed_at (classes_at context.now) part)) result }
 {
     let TypedExpr { expr: of, kind } = part;
-    let class = key_of(alloc, context.scope, name)?;
-    let kind = isa_kind(&context.known, &class, kind);
+    let key = key_of(alloc, context.scope, name)?;
+    let kind = isa_kind(&context.known, &key, kind);
+    let class = Boxed::new(alloc, key)?;
     formed(alloc, Expr::Isa { class, of }, kind)
 }
 
@@ -100,7 +102,8 @@ pub fn proxy(
     ensures { Makes (classes_at context.now) (spec.proxy_form (among_at context.now) name.now (typed_at (classes_at context.now) part)) result }
 {
     let TypedExpr { expr: of, kind } = part;
-    let class = key_of(alloc, context.scope, name)?;
-    let kind = proxy_kind(&context.known, &class, kind);
+    let key = key_of(alloc, context.scope, name)?;
+    let kind = proxy_kind(&context.known, &key, kind);
+    let class = Boxed::new(alloc, key)?;
     formed(alloc, Expr::Proxy { class, of }, kind)
 }

@@ -14,7 +14,7 @@ use crate::methods::{method_of, method_ref, own_method};
 use crate::names::parent_place;
 use crate::parts::{Parts, formed};
 use crate::typed_expr::TypedExpr;
-use som_model::{ClassKey, Expr, Text};
+use som_model::{Boxed, ClassKey, Expr, Text};
 use som_sema_scope::key_of;
 use som_verify_forms::{
     CodePlace, Knowledge, TypeFault, parent_call_kind, parents_call_kind, place_of,
@@ -89,15 +89,16 @@ fn call_at(
     ensures { Makes (classes_at context.now) (parent_by (facts_at context.now) (place_at context.now) number
         (record { class = key_at (classes_at context.now) class; name = name.now }) (parts_at (classes_at context.now) args)) result }
 {
-    let method = method_ref(alloc, &context.known, class, name)?;
+    let found = method_ref(alloc, &context.known, class, name)?;
     let Parts { exprs, kinds } = args;
     let kind = parent_call_kind(
         &context.known,
         &context.at,
         number as usize,
-        &method,
+        &found,
         kinds.as_slice(),
     );
+    let method = Boxed::new(alloc, found)?;
     formed(
         alloc,
         Expr::ParentCall {
@@ -139,9 +140,10 @@ fn call_all(
     ensures { Makes (classes_at context.now) (parents_by (facts_at context.now) (place_at context.now)
         (record { class = key_at (classes_at context.now) class; name = name.now }) (parts_at (classes_at context.now) args)) result }
 {
-    let method = method_ref(alloc, &context.known, class, name)?;
+    let found = method_ref(alloc, &context.known, class, name)?;
     let Parts { exprs, kinds } = args;
-    let kind = parents_call_kind(&context.known, &context.at, &method, kinds.as_slice());
+    let kind = parents_call_kind(&context.known, &context.at, &found, kinds.as_slice());
+    let method = Boxed::new(alloc, found)?;
     formed(
         alloc,
         Expr::ParentsCall {

@@ -65,14 +65,7 @@ fn local_takes(
         None => Err(BodyFault::Rule(16)),
         Some(local) => {
             let fits = kind_fits(&context.known, kind_of_local(locals, local as usize), kind);
-            demanded(
-                17,
-                fits,
-                Stmt::SetLocal {
-                    local,
-                    value: expr.into_inner(),
-                },
-            )
+            demanded(17, fits, Stmt::SetLocal { local, value: expr })
         }
     }
 }
@@ -125,7 +118,7 @@ fn variable_takes(
                     fits,
                     Stmt::SetVariable {
                         variable,
-                        value: expr.into_inner(),
+                        value: expr,
                     },
                 )
             }
@@ -165,9 +158,7 @@ fn answer_value(
     demanded(
         19,
         is_answer(context, kind),
-        Stmt::ReturnValue {
-            value: expr.into_inner(),
-        },
+        Stmt::ReturnValue { value: expr },
     )
 }
 
@@ -197,13 +188,7 @@ pub fn print(
     ensures { Keeps (classes_at context.now) (by_value (value_in context.now locals.now value.now) (forms.printed (names_in context.now locals.now))) locals.now result }
 {
     let TypedExpr { expr, kind } = value_expression(alloc, context, locals, value)?;
-    demanded(
-        17,
-        has_text(kind),
-        Stmt::Print {
-            value: expr.into_inner(),
-        },
-    )
+    demanded(17, has_text(kind), Stmt::Print { value: expr })
 }
 
 /// What is freed is an object, and not plain nil.
@@ -218,13 +203,7 @@ pub fn free(
     ensures { Keeps (classes_at context.now) (by_value (value_in context.now locals.now value.now) (forms.freed (names_in context.now locals.now))) locals.now result }
 {
     let TypedExpr { expr, kind } = value_expression(alloc, context, locals, value)?;
-    demanded(
-        17,
-        is_object(kind),
-        Stmt::Free {
-            value: expr.into_inner(),
-        },
-    )
+    demanded(17, is_object(kind), Stmt::Free { value: expr })
 }
 
 /// A call stands alone, whatever it answers, and nothing else does.
@@ -240,11 +219,5 @@ pub fn call(
 {
     let TypedExpr { expr, .. } = expression(alloc, context, locals, call)?;
     let stands = is_call(expr.get());
-    demanded(
-        20,
-        stands,
-        Stmt::Call {
-            call: expr.into_inner(),
-        },
-    )
+    demanded(20, stands, Stmt::Call { call: expr })
 }

@@ -13,7 +13,7 @@ use crate::plain_statements::{answer, call, demanded, free, print, set_local, se
 use crate::scoping::declared_kind;
 use crate::{BodyContext, Local, TypedExpr, value_expression};
 use som_ast::{BlockText, ExprText, StmtText, TypeName};
-use som_model::{Block, List, Stmt};
+use som_model::{Block, Boxed, List, Stmt};
 use som_sema_scope::type_of;
 use som_verify_forms::is_boolean;
 use std::alloc::Global;
@@ -110,9 +110,9 @@ fn choice<'a>(
     let then = block(alloc, context, locals, then)?;
     let other = block(alloc, context, locals, other)?;
     let made = Stmt::If {
-        condition: expr.into_inner(),
-        then,
-        other,
+        condition: expr,
+        then: Boxed::new(alloc, then)?,
+        other: Boxed::new(alloc, other)?,
     };
     demanded(17, is_boolean(kind), made)
 }
@@ -133,8 +133,8 @@ fn repetition<'a>(
     let TypedExpr { expr, kind } = value_expression(alloc, context, locals.as_slice(), condition)?;
     let body = block(alloc, context, locals, body)?;
     let made = Stmt::While {
-        condition: expr.into_inner(),
-        block: body,
+        condition: expr,
+        block: Boxed::new(alloc, body)?,
     };
     demanded(17, is_boolean(kind), made)
 }
@@ -155,11 +155,12 @@ fn declare_local<'a>(
 {
     let before = locals.as_slice();
     let made = value_expression(alloc, context, before, value)?;
-    let kind = type_of(alloc, context.scope, kind)?;
-    let wanted = declared_kind(context, before, name, &kind, made.kind)?;
+    let found = type_of(alloc, context.scope, kind)?;
+    let kind = Boxed::new(alloc, found)?;
+    let wanted = declared_kind(context, before, name, kind.get(), made.kind)?;
     locals.push(Local { name, kind: wanted })?;
     Ok(Stmt::Var {
         kind,
-        value: made.expr.into_inner(),
+        value: made.expr,
     })
 }

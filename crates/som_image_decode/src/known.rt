@@ -7,7 +7,7 @@ ghost use Rattle.std.specs.Prelude.{◌≡◌, true, IfOk};
 use crate::Directory;
 use crate::named::{key_of, name_kind};
 use som_image_fields::{WireMethod, WireType};
-use som_model::{ClassKey, MethodRef, NoMemory, ValueType};
+use som_model::{Boxed, ClassKey, MethodRef, NoMemory, ValueType};
 use std::alloc::Global;
 
 // What the numbers and slots in expressions and statements stand for.
@@ -16,31 +16,31 @@ pub(crate) fn name_class(
     alloc: Global,
     directory: &Directory,
     number: u16,
-) -> Result<ClassKey, NoMemory>
+) -> Result<Boxed<ClassKey>, NoMemory>
     requires { is_class directory.now number ≡ true }
     ensures { IfOk result (λ key. key ≡ key_at directory.now.keys number) }
 {
-    key_of(alloc, &directory.keys, number)
+    Boxed::new(alloc, key_of(alloc, &directory.keys, number)?)
 }
 
 pub(crate) fn name_method(
     alloc: Global,
     directory: &Directory,
     method: WireMethod,
-) -> Result<MethodRef, NoMemory>
+) -> Result<Boxed<MethodRef>, NoMemory>
     requires { is_method directory.now method ≡ true }
     ensures { IfOk result (λ named. named ≡ method_named directory.now method) }
 {
-    directory.method(alloc, method)
+    Boxed::new(alloc, directory.method(alloc, method)?)
 }
 
 pub(crate) fn name_type(
     alloc: Global,
     directory: &Directory,
     kind: &WireType,
-) -> Result<ValueType, NoMemory>
+) -> Result<Boxed<ValueType>, NoMemory>
     requires { is_type directory.now kind.now ≡ true }
     ensures { IfOk result (λ named. named ≡ kind_named directory.now.keys kind.now) }
 {
-    name_kind(alloc, &directory.keys, kind)
+    Boxed::new(alloc, name_kind(alloc, &directory.keys, kind)?)
 }

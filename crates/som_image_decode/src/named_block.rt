@@ -12,7 +12,7 @@ use crate::Directory;
 use crate::known::name_type;
 use crate::named_expr::name_expr;
 use som_image_fields::{WireBlock, WireExpr, WireStmt, WireType};
-use som_model::{Block, List, NoMemory, Stmt};
+use som_model::{Block, Boxed, Expr, List, NoMemory, Stmt};
 use std::alloc::Global;
 
 /// The block that a block of an image stands for.
@@ -63,11 +63,11 @@ fn name_stmt(alloc: Global, directory: &Directory, statement: &WireStmt) -> Resu
         WireStmt::Var { kind, value } => name_var(alloc, directory, kind, value),
         WireStmt::SetLocal { local, value } => Ok(Stmt::SetLocal {
             local: *local,
-            value: name_expr(alloc, directory, value)?,
+            value: name_value(alloc, directory, value)?,
         }),
         WireStmt::SetVariable { variable, value } => Ok(Stmt::SetVariable {
             variable: *variable,
-            value: name_expr(alloc, directory, value)?,
+            value: name_value(alloc, directory, value)?,
         }),
         WireStmt::If {
             condition,
@@ -77,18 +77,30 @@ fn name_stmt(alloc: Global, directory: &Directory, statement: &WireStmt) -> Resu
         WireStmt::While { condition, block } => name_while(alloc, directory, condition, block),
         WireStmt::Return => Ok(Stmt::Return),
         WireStmt::ReturnValue { value } => Ok(Stmt::ReturnValue {
-            value: name_expr(alloc, directory, value)?,
+            value: name_value(alloc, directory, value)?,
         }),
         WireStmt::Print { value } => Ok(Stmt::Print {
-            value: name_expr(alloc, directory, value)?,
+            value: name_value(alloc, directory, value)?,
         }),
         WireStmt::Free { value } => Ok(Stmt::Free {
-            value: name_expr(alloc, directory, value)?,
+            value: name_value(alloc, directory, value)?,
         }),
         WireStmt::Call { call } => Ok(Stmt::Call {
-            call: name_expr(alloc, directory, call)?,
+            call: name_value(alloc, directory, call)?,
         }),
     }
+}
+
+// An expression of a statement.
+fn name_value(
+    alloc: Global,
+    directory: &Directory,
+    value: &WireExpr,
+) -> Result<Boxed<Expr>, NoMemory>
+    requires { expr_known directory.now value.now ≡ true }
+    ensures { IfOk result (λ named. named ≡ expr_named directory.now value.now) }
+{
+    Boxed::new(alloc, name_expr(alloc, directory, value)?)
 }
 
 fn name_var(
@@ -102,7 +114,7 @@ fn name_var(
     ensures { IfOk result (λ named. named ≡ stmts.Var (kind_named directory.now.keys kind.now) (expr_named directory.now value.now)) }
 {
     let kind = name_type(alloc, directory, kind)?;
-    let value = name_expr(alloc, directory, value)?;
+    let value = name_value(alloc, directory, value)?;
     Ok(Stmt::Var { kind, value })
 }
 
@@ -119,9 +131,9 @@ fn name_if(
     requires other { block_known directory.now other.now ≡ true }
     ensures { IfOk result (λ named. named ≡ stmts.If (expr_named directory.now condition.now) (block_named directory.now then.now) (block_named directory.now other.now)) }
 {
-    let then = name_inner(alloc, directory, then)?;
-    let other = name_inner(alloc, directory, other)?;
-    let condition = name_expr(alloc, directory, condition)?;
+    let then = Boxed::new(alloc, name_inner(alloc, directory, then)?)?;
+    let other = Boxed::new(alloc, name_inner(alloc, directory, other)?)?;
+    let condition = name_value(alloc, directory, condition)?;
     Ok(Stmt::If {
         condition,
         then,
@@ -140,7 +152,7 @@ fn name_while(
     requires block { block_known directory.now block.now ≡ true }
     ensures { IfOk result (λ named. named ≡ stmts.While (expr_named directory.now condition.now) (block_named directory.now block.now)) }
 {
-    let block = name_inner(alloc, directory, block)?;
-    let condition = name_expr(alloc, directory, condition)?;
+    let block = Boxed::new(alloc, name_inner(alloc, directory, block)?)?;
+    let condition = name_value(alloc, directory, condition)?;
     Ok(Stmt::While { condition, block })
 }

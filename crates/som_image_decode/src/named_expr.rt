@@ -125,7 +125,7 @@ fn name_receiver_call(
             receiver,
             args,
         } => Ok(Expr::Lookup {
-            name: name.copy(alloc)?,
+            name: name.copy_boxed(alloc)?,
             receiver: name_boxed(alloc, directory, receiver)?,
             args: name_exprs(alloc, directory, args)?,
             result: name_type(alloc, directory, kind)?,
@@ -136,7 +136,7 @@ fn name_receiver_call(
             receiver,
             args,
         } => Ok(Expr::Dispatch {
-            name: name.copy(alloc)?,
+            name: name.copy_boxed(alloc)?,
             receiver: name_boxed(alloc, directory, receiver)?,
             args: name_exprs(alloc, directory, args)?,
             result: name_type(alloc, directory, kind)?,

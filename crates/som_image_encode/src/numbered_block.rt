@@ -78,35 +78,42 @@ fn number_stmt(
     ensures { IfOk result (λ numbered. numbered ≡ stmt_numbered directory.now statement.now) }
 {
     match statement {
-        Stmt::Var { kind, value } => number_var(alloc, directory, names, kind, value),
+        Stmt::Var { kind, value } => number_var(alloc, directory, names, kind.get(), value.get()),
         Stmt::SetLocal { local, value } => Ok(WireStmt::SetLocal {
             local: *local,
-            value: number_expr(alloc, directory, names, value)?,
+            value: number_expr(alloc, directory, names, value.get())?,
         }),
         Stmt::SetVariable { variable, value } => Ok(WireStmt::SetVariable {
             variable: *variable,
-            value: number_expr(alloc, directory, names, value)?,
+            value: number_expr(alloc, directory, names, value.get())?,
         }),
         Stmt::If {
             condition,
             then,
             other,
-        } => number_if(alloc, directory, names, condition, then, other),
+        } => number_if(
+            alloc,
+            directory,
+            names,
+            condition.get(),
+            then.get(),
+            other.get(),
+        ),
         Stmt::While { condition, block } => {
-            number_while(alloc, directory, names, condition, block)
+            number_while(alloc, directory, names, condition.get(), block.get())
         }
         Stmt::Return => Ok(WireStmt::Return),
         Stmt::ReturnValue { value } => Ok(WireStmt::ReturnValue {
-            value: number_expr(alloc, directory, names, value)?,
+            value: number_expr(alloc, directory, names, value.get())?,
         }),
         Stmt::Print { value } => Ok(WireStmt::Print {
-            value: number_expr(alloc, directory, names, value)?,
+            value: number_expr(alloc, directory, names, value.get())?,
         }),
         Stmt::Free { value } => Ok(WireStmt::Free {
-            value: number_expr(alloc, directory, names, value)?,
+            value: number_expr(alloc, directory, names, value.get())?,
         }),
         Stmt::Call { call } => Ok(WireStmt::Call {
-            call: number_expr(alloc, directory, names, call)?,
+            call: number_expr(alloc, directory, names, call.get())?,
         }),
     }
 }

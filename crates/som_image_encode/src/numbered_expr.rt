@@ -38,8 +38,8 @@ pub(crate) fn number_expr(
         Expr::Variable(variable) => Ok(WireExpr::Variable(*variable)),
         Expr::Unary { .. } => number_operation(alloc, directory, names, expr),
         Expr::Binary { .. } => number_operation(alloc, directory, names, expr),
-        Expr::New(class) => Ok(WireExpr::New(number_class(directory, names, class))),
-        Expr::Class(class) => Ok(WireExpr::Class(number_class(directory, names, class))),
+        Expr::New(class) => Ok(WireExpr::New(number_class(directory, names, class.get()))),
+        Expr::Class(class) => Ok(WireExpr::Class(number_class(directory, names, class.get()))),
         Expr::Manager => Ok(WireExpr::Manager),
         Expr::Cast { .. } => number_operation(alloc, directory, names, expr),
         Expr::Isa { .. } => number_operation(alloc, directory, names, expr),
@@ -53,11 +53,11 @@ pub(crate) fn number_expr(
             args,
         } => Ok(WireExpr::ParentCall {
             parent: *parent,
-            method: number_method(directory, names, method),
+            method: number_method(directory, names, method.get()),
             args: number_exprs(alloc, directory, names, args)?,
         }),
         Expr::ParentsCall { method, args } => Ok(WireExpr::ParentsCall {
-            method: number_method(directory, names, method),
+            method: number_method(directory, names, method.get()),
             args: number_exprs(alloc, directory, names, args)?,
         }),
         Expr::Host { .. } => number_operation(alloc, directory, names, expr),
@@ -88,15 +88,15 @@ fn number_operation(
             right: number_boxed(alloc, directory, names, right)?,
         }),
         Expr::Cast { class, of } => Ok(WireExpr::Cast {
-            class: number_class(directory, names, class),
+            class: number_class(directory, names, class.get()),
             of: number_boxed(alloc, directory, names, of)?,
         }),
         Expr::Isa { class, of } => Ok(WireExpr::Isa {
-            class: number_class(directory, names, class),
+            class: number_class(directory, names, class.get()),
             of: number_boxed(alloc, directory, names, of)?,
         }),
         Expr::Proxy { class, of } => Ok(WireExpr::Proxy {
-            class: number_class(directory, names, class),
+            class: number_class(directory, names, class.get()),
             of: number_boxed(alloc, directory, names, of)?,
         }),
         Expr::Host { code, a, b } => Ok(WireExpr::Host {
@@ -127,7 +127,7 @@ fn number_receiver_call(
             receiver,
             args,
         } => Ok(WireExpr::OffsetCall {
-            method: number_method(directory, names, method),
+            method: number_method(directory, names, method.get()),
             receiver: number_boxed(alloc, directory, names, receiver)?,
             args: number_exprs(alloc, directory, names, args)?,
         }),
@@ -137,8 +137,8 @@ fn number_receiver_call(
             receiver,
             args,
         } => Ok(WireExpr::Lookup {
-            result: number_kind(directory, names, kind),
-            name: name.copy(alloc)?,
+            result: number_kind(directory, names, kind.get()),
+            name: name.get().copy(alloc)?,
             receiver: number_boxed(alloc, directory, names, receiver)?,
             args: number_exprs(alloc, directory, names, args)?,
         }),
@@ -148,8 +148,8 @@ fn number_receiver_call(
             receiver,
             args,
         } => Ok(WireExpr::Dispatch {
-            result: number_kind(directory, names, kind),
-            name: name.copy(alloc)?,
+            result: number_kind(directory, names, kind.get()),
+            name: name.get().copy(alloc)?,
             receiver: number_boxed(alloc, directory, names, receiver)?,
             args: number_exprs(alloc, directory, names, args)?,
         }),

@@ -1,8 +1,8 @@
-//! Copies of class keys, types and references to methods with all that they hold.
+//! Copies of class keys, types and references to methods with all that they hold, as they are or behind a pointer.
 
 ghost use Rattle.std.specs.Prelude.{◌≡◌, IfOk};
 
-use crate::{Boxed, ClassKey, List, MethodRef, NoMemory, ValueType};
+use crate::{Boxed, ClassKey, List, MethodRef, NoMemory, Text, ValueType};
 use std::alloc::Global;
 
 impl ClassKey {
@@ -58,5 +58,37 @@ impl MethodRef {
             name: self.name.copy(alloc)?,
             class: self.class.copy(alloc)?,
         })
+    }
+}
+
+impl ClassKey {
+    pub fn copy_boxed(&self, alloc: Global) -> Result<Boxed<ClassKey>, NoMemory>
+        ensures { IfOk result (λ key. key ≡ self.now) }
+    {
+        Boxed::new(alloc, self.copy(alloc)?)
+    }
+}
+
+impl ValueType {
+    pub fn copy_boxed(&self, alloc: Global) -> Result<Boxed<ValueType>, NoMemory>
+        ensures { IfOk result (λ kind. kind ≡ self.now) }
+    {
+        Boxed::new(alloc, self.copy(alloc)?)
+    }
+}
+
+impl MethodRef {
+    pub fn copy_boxed(&self, alloc: Global) -> Result<Boxed<MethodRef>, NoMemory>
+        ensures { IfOk result (λ method. method ≡ self.now) }
+    {
+        Boxed::new(alloc, self.copy(alloc)?)
+    }
+}
+
+impl Text {
+    pub fn copy_boxed(&self, alloc: Global) -> Result<Boxed<Text>, NoMemory>
+        ensures { IfOk result (λ text. text ≡ self.now) }
+    {
+        Boxed::new(alloc, self.copy(alloc)?)
     }
 }

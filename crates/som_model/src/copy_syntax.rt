@@ -26,12 +26,12 @@ impl Expr {
                 of: copy_boxed(alloc, of)?,
             }),
             Expr::Binary { op, left, right } => copy_binary(alloc, *op, left, right),
-            Expr::New(key) => Ok(Expr::New(key.copy(alloc)?)),
-            Expr::Class(key) => Ok(Expr::Class(key.copy(alloc)?)),
+            Expr::New(key) => Ok(Expr::New(key.get().copy_boxed(alloc)?)),
+            Expr::Class(key) => Ok(Expr::Class(key.get().copy_boxed(alloc)?)),
             Expr::Manager => Ok(Expr::Manager),
-            Expr::Cast { class, of } => copy_cast(alloc, of, class),
-            Expr::Isa { class, of } => copy_isa(alloc, of, class),
-            Expr::Proxy { class, of } => copy_proxy(alloc, of, class),
+            Expr::Cast { class, of } => copy_cast(alloc, of, class.get()),
+            Expr::Isa { class, of } => copy_isa(alloc, of, class.get()),
+            Expr::Proxy { class, of } => copy_proxy(alloc, of, class.get()),
             Expr::Host { code, a, b } => copy_host(alloc, *code, a, b),
             _ => copy_call(alloc, self),
         }
@@ -49,25 +49,25 @@ fn copy_call(alloc: Global, call: &Expr) -> Result<Expr, NoMemory>
             method,
             receiver,
             args,
-        } => copy_offset_call(alloc, method, args, receiver),
+        } => copy_offset_call(alloc, method.get(), args, receiver),
         Expr::Lookup {
             result: kind,
             name,
             receiver,
             args,
-        } => copy_lookup(alloc, kind, name, args, receiver),
+        } => copy_lookup(alloc, kind.get(), name.get(), args, receiver),
         Expr::Dispatch {
             result: kind,
             name,
             receiver,
             args,
-        } => copy_dispatch(alloc, kind, name, args, receiver),
+        } => copy_dispatch(alloc, kind.get(), name.get(), args, receiver),
         Expr::ParentCall {
             parent,
             method,
             args,
-        } => copy_parent_call(alloc, *parent, method, args),
-        Expr::ParentsCall { method, args } => copy_parents_call(alloc, method, args),
+        } => copy_parent_call(alloc, *parent, method.get(), args),
+        Expr::ParentsCall { method, args } => copy_parents_call(alloc, method.get(), args),
         _ => unreachable!(),
     }
 }
@@ -111,7 +111,7 @@ fn copy_cast(alloc: Global, of: &Boxed<Expr>, class: &ClassKey) -> Result<Expr, 
 {
     Ok(Expr::Cast {
         of: copy_boxed(alloc, of)?,
-        class: class.copy(alloc)?,
+        class: class.copy_boxed(alloc)?,
     })
 }
 
@@ -121,7 +121,7 @@ fn copy_isa(alloc: Global, of: &Boxed<Expr>, class: &ClassKey) -> Result<Expr, N
 {
     Ok(Expr::Isa {
         of: copy_boxed(alloc, of)?,
-        class: class.copy(alloc)?,
+        class: class.copy_boxed(alloc)?,
     })
 }
 
@@ -131,7 +131,7 @@ fn copy_proxy(alloc: Global, of: &Boxed<Expr>, class: &ClassKey) -> Result<Expr,
 {
     Ok(Expr::Proxy {
         of: copy_boxed(alloc, of)?,
-        class: class.copy(alloc)?,
+        class: class.copy_boxed(alloc)?,
     })
 }
 
@@ -147,7 +147,7 @@ fn copy_offset_call(
     Ok(Expr::OffsetCall {
         args: copy_exprs(alloc, args)?,
         receiver: copy_boxed(alloc, receiver)?,
-        method: method.copy(alloc)?,
+        method: method.copy_boxed(alloc)?,
     })
 }
 
@@ -164,8 +164,8 @@ fn copy_lookup(
     Ok(Expr::Lookup {
         args: copy_exprs(alloc, args)?,
         receiver: copy_boxed(alloc, receiver)?,
-        name: name.copy(alloc)?,
-        result: kind.copy(alloc)?,
+        name: name.copy_boxed(alloc)?,
+        result: kind.copy_boxed(alloc)?,
     })
 }
 
@@ -182,8 +182,8 @@ fn copy_dispatch(
     Ok(Expr::Dispatch {
         args: copy_exprs(alloc, args)?,
         receiver: copy_boxed(alloc, receiver)?,
-        name: name.copy(alloc)?,
-        result: kind.copy(alloc)?,
+        name: name.copy_boxed(alloc)?,
+        result: kind.copy_boxed(alloc)?,
     })
 }
 
@@ -199,7 +199,7 @@ fn copy_parent_call(
     Ok(Expr::ParentCall {
         parent,
         args: copy_exprs(alloc, args)?,
-        method: method.copy(alloc)?,
+        method: method.copy_boxed(alloc)?,
     })
 }
 
@@ -209,7 +209,7 @@ fn copy_parents_call(alloc: Global, method: &MethodRef, args: &List<Expr>) -> Re
 {
     Ok(Expr::ParentsCall {
         args: copy_exprs(alloc, args)?,
-        method: method.copy(alloc)?,
+        method: method.copy_boxed(alloc)?,
     })
 }
 
@@ -250,53 +250,58 @@ impl Stmt {
         ensures { IfOk result (λ statement. statement ≡ self.now) }
     {
         match self {
-            Stmt::Var { kind, value } => copy_var(alloc, kind, value),
+            Stmt::Var { kind, value } => copy_var(alloc, kind.get(), value),
             Stmt::SetLocal { local, value } => Ok(Stmt::SetLocal {
                 local: *local,
-                value: value.copy(alloc)?,
+                value: copy_boxed(alloc, value)?,
             }),
             Stmt::SetVariable { variable, value } => Ok(Stmt::SetVariable {
                 variable: *variable,
-                value: value.copy(alloc)?,
+                value: copy_boxed(alloc, value)?,
             }),
             Stmt::If {
                 condition,
                 then,
                 other,
-            } => copy_if(alloc, condition, then, other),
-            Stmt::While { condition, block } => copy_while(alloc, condition, block),
+            } => copy_if(alloc, condition, then.get(), other.get()),
+            Stmt::While { condition, block } => copy_while(alloc, condition, block.get()),
             Stmt::Return => Ok(Stmt::Return),
             Stmt::ReturnValue { value } => Ok(Stmt::ReturnValue {
-                value: value.copy(alloc)?,
+                value: copy_boxed(alloc, value)?,
             }),
             Stmt::Print { value } => Ok(Stmt::Print {
-                value: value.copy(alloc)?,
+                value: copy_boxed(alloc, value)?,
             }),
             Stmt::Free { value } => Ok(Stmt::Free {
-                value: value.copy(alloc)?,
+                value: copy_boxed(alloc, value)?,
             }),
             Stmt::Call { call } => Ok(Stmt::Call {
-                call: call.copy(alloc)?,
+                call: copy_boxed(alloc, call)?,
             }),
         }
     }
 }
 
-fn copy_var(alloc: Global, kind: &ValueType, value: &Expr) -> Result<Stmt, NoMemory>
+fn copy_var(alloc: Global, kind: &ValueType, value: &Boxed<Expr>) -> Result<Stmt, NoMemory>
     ensures { IfOk result (λ statement. statement ≡ Stmt.Var kind.now value.now) }
 {
-    let kind = kind.copy(alloc)?;
-    let value = value.copy(alloc)?;
+    let kind = kind.copy_boxed(alloc)?;
+    let value = copy_boxed(alloc, value)?;
     Ok(Stmt::Var { kind, value })
 }
 
 #[cycle(copy_block)]
-fn copy_if(alloc: Global, condition: &Expr, then: &Block, other: &Block) -> Result<Stmt, NoMemory>
+fn copy_if(
+    alloc: Global,
+    condition: &Boxed<Expr>,
+    then: &Block,
+    other: &Block,
+) -> Result<Stmt, NoMemory>
     ensures { IfOk result (λ statement. statement ≡ Stmt.If condition.now then.now other.now) }
 {
-    let then = then.copy(alloc)?;
-    let other = other.copy(alloc)?;
-    let condition = condition.copy(alloc)?;
+    let then = Boxed::new(alloc, then.copy(alloc)?)?;
+    let other = Boxed::new(alloc, other.copy(alloc)?)?;
+    let condition = copy_boxed(alloc, condition)?;
     Ok(Stmt::If {
         condition,
         then,
@@ -305,10 +310,10 @@ fn copy_if(alloc: Global, condition: &Expr, then: &Block, other: &Block) -> Resu
 }
 
 #[cycle(copy_block)]
-fn copy_while(alloc: Global, condition: &Expr, block: &Block) -> Result<Stmt, NoMemory>
+fn copy_while(alloc: Global, condition: &Boxed<Expr>, block: &Block) -> Result<Stmt, NoMemory>
     ensures { IfOk result (λ statement. statement ≡ Stmt.While condition.now block.now) }
 {
-    let block = block.copy(alloc)?;
-    let condition = condition.copy(alloc)?;
+    let block = Boxed::new(alloc, block.copy(alloc)?)?;
+    let condition = copy_boxed(alloc, condition)?;
     Ok(Stmt::While { condition, block })
 }

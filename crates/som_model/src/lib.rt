@@ -12,6 +12,7 @@ mod list;
 mod memory;
 mod program;
 mod same;
+mod sizes;
 mod syntax;
 mod text;
 mod text_bytes;

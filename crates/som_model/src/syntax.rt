@@ -28,39 +28,39 @@ pub struct Block {
 #[derive(Drop)]
 pub enum Stmt {
     Var {
-        kind: ValueType,
-        value: Expr,
+        kind: Boxed<ValueType>,
+        value: Boxed<Expr>,
     },
     SetLocal {
         local: u16,
-        value: Expr,
+        value: Boxed<Expr>,
     },
     SetVariable {
         variable: u8,
-        value: Expr,
+        value: Boxed<Expr>,
     },
     /// Without an `else` the other block is empty.
     If {
-        condition: Expr,
-        then: Block,
-        other: Block,
+        condition: Boxed<Expr>,
+        then: Boxed<Block>,
+        other: Boxed<Block>,
     },
     While {
-        condition: Expr,
-        block: Block,
+        condition: Boxed<Expr>,
+        block: Boxed<Block>,
     },
     Return,
     ReturnValue {
-        value: Expr,
+        value: Boxed<Expr>,
     },
     Print {
-        value: Expr,
+        value: Boxed<Expr>,
     },
     Free {
-        value: Expr,
+        value: Boxed<Expr>,
     },
     Call {
-        call: Expr,
+        call: Boxed<Expr>,
     },
 }
 
@@ -84,46 +84,46 @@ pub enum Expr {
         left: Boxed<Expr>,
         right: Boxed<Expr>,
     },
-    New(ClassKey),
-    Class(ClassKey),
+    New(Boxed<ClassKey>),
+    Class(Boxed<ClassKey>),
     Manager,
     Cast {
-        class: ClassKey,
+        class: Boxed<ClassKey>,
         of: Boxed<Expr>,
     },
     Isa {
-        class: ClassKey,
+        class: Boxed<ClassKey>,
         of: Boxed<Expr>,
     },
     Proxy {
-        class: ClassKey,
+        class: Boxed<ClassKey>,
         of: Boxed<Expr>,
     },
     OffsetCall {
-        method: MethodRef,
+        method: Boxed<MethodRef>,
         receiver: Boxed<Expr>,
         args: List<Expr>,
     },
     Lookup {
-        result: ValueType,
-        name: Text,
+        result: Boxed<ValueType>,
+        name: Boxed<Text>,
         receiver: Boxed<Expr>,
         args: List<Expr>,
     },
     Dispatch {
-        result: ValueType,
-        name: Text,
+        result: Boxed<ValueType>,
+        name: Boxed<Text>,
         receiver: Boxed<Expr>,
         args: List<Expr>,
     },
     /// A call of a parent's method on self; the parent goes by its place among those of the body's class.
     ParentCall {
         parent: u8,
-        method: MethodRef,
+        method: Boxed<MethodRef>,
         args: List<Expr>,
     },
     ParentsCall {
-        method: MethodRef,
+        method: Boxed<MethodRef>,
         args: List<Expr>,
     },
     Host {

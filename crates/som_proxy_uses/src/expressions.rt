@@ -41,7 +41,7 @@ pub(crate) fn note_expr(alloc: Global, e: &Expr, named: &mut List<ClassKey>) -> 
         Expr::Cast { of, .. } => note_part(alloc, of, named),
         Expr::Isa { of, .. } => note_part(alloc, of, named),
         Expr::Proxy { class, of } => {
-            note_class_of(alloc, class, named)?;
+            note_class_of(alloc, class.get(), named)?;
             note_part(alloc, of, named)
         }
         Expr::Host { a, b, .. } => note_both(alloc, a, b, named),

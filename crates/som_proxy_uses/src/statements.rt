@@ -29,20 +29,25 @@ fn note_stmt(alloc: Global, statement: &Stmt, named: &mut List<ClassKey>) -> Res
     ensures { OnOk result (proxies_of named.new ≡ proxies_of named.old ++ stmt_proxies statement.now) }
 {
     match statement {
-        Stmt::Var { value, .. } => note_expr(alloc, value, named),
-        Stmt::SetLocal { value, .. } => note_expr(alloc, value, named),
-        Stmt::SetVariable { value, .. } => note_expr(alloc, value, named),
+        Stmt::Var { value, .. } => note_expr(alloc, value.get(), named),
+        Stmt::SetLocal { value, .. } => note_expr(alloc, value.get(), named),
+        Stmt::SetVariable { value, .. } => note_expr(alloc, value.get(), named),
         Stmt::If {
             condition,
             then,
             other,
-        } => note_choice(alloc, condition, then, other, named),
-        Stmt::While { condition, block } => note_guarded(alloc, condition, block, named),
+        } => note_choice(alloc, condition.get(), then.get(), other.get(), named),
+        Stmt::While { condition, block } => note_guarded(
+            alloc,
+            condition.get(),
+            block.get(),
+            named,
+        ),
         Stmt::Return => Ok(()),
-        Stmt::ReturnValue { value } => note_expr(alloc, value, named),
-        Stmt::Print { value } => note_expr(alloc, value, named),
-        Stmt::Free { value } => note_expr(alloc, value, named),
-        Stmt::Call { call } => note_expr(alloc, call, named),
+        Stmt::ReturnValue { value } => note_expr(alloc, value.get(), named),
+        Stmt::Print { value } => note_expr(alloc, value.get(), named),
+        Stmt::Free { value } => note_expr(alloc, value.get(), named),
+        Stmt::Call { call } => note_expr(alloc, call.get(), named),
     }
 }
 

@@ -32,12 +32,12 @@ pub fn rekey_expr<C: NewModules>(alloc: Global, change: &C, expr: &Expr) -> Resu
             of: rekey_boxed(alloc, change, of)?,
         }),
         Expr::Binary { op, left, right } => rekey_binary(alloc, change, *op, left, right),
-        Expr::New(key) => Ok(Expr::New(rekey_key(alloc, change, key)?)),
-        Expr::Class(key) => Ok(Expr::Class(rekey_key(alloc, change, key)?)),
+        Expr::New(key) => Ok(Expr::New(boxed_key(alloc, change, key.get())?)),
+        Expr::Class(key) => Ok(Expr::Class(boxed_key(alloc, change, key.get())?)),
         Expr::Manager => Ok(Expr::Manager),
-        Expr::Cast { class, of } => rekey_cast(alloc, change, of, class),
-        Expr::Isa { class, of } => rekey_isa(alloc, change, of, class),
-        Expr::Proxy { class, of } => rekey_proxy(alloc, change, of, class),
+        Expr::Cast { class, of } => rekey_cast(alloc, change, of, class.get()),
+        Expr::Isa { class, of } => rekey_isa(alloc, change, of, class.get()),
+        Expr::Proxy { class, of } => rekey_proxy(alloc, change, of, class.get()),
         Expr::Host { code, a, b } => rekey_host(alloc, change, *code, a, b),
         _ => rekey_call(alloc, change, expr),
     }
@@ -54,25 +54,25 @@ fn rekey_call<C: NewModules>(alloc: Global, change: &C, call: &Expr) -> Result<E
             method,
             receiver,
             args,
-        } => rekey_offset_call(alloc, change, method, args, receiver),
+        } => rekey_offset_call(alloc, change, method.get(), args, receiver),
         Expr::Lookup {
             result: kind,
             name,
             receiver,
             args,
-        } => rekey_lookup(alloc, change, kind, name, args, receiver),
+        } => rekey_lookup(alloc, change, kind.get(), name.get(), args, receiver),
         Expr::Dispatch {
             result: kind,
             name,
             receiver,
             args,
-        } => rekey_dispatch(alloc, change, kind, name, args, receiver),
+        } => rekey_dispatch(alloc, change, kind.get(), name.get(), args, receiver),
         Expr::ParentCall {
             parent,
             method,
             args,
-        } => rekey_parent_call(alloc, change, *parent, method, args),
-        Expr::ParentsCall { method, args } => rekey_parents_call(alloc, change, method, args),
+        } => rekey_parent_call(alloc, change, *parent, method.get(), args),
+        Expr::ParentsCall { method, args } => rekey_parents_call(alloc, change, method.get(), args),
         _ => unreachable!(),
     }
 }
@@ -123,7 +123,7 @@ fn rekey_cast<C: NewModules>(
 {
     Ok(Expr::Cast {
         of: rekey_boxed(alloc, change, of)?,
-        class: rekey_key(alloc, change, class)?,
+        class: boxed_key(alloc, change, class)?,
     })
 }
 
@@ -138,7 +138,7 @@ fn rekey_isa<C: NewModules>(
 {
     Ok(Expr::Isa {
         of: rekey_boxed(alloc, change, of)?,
-        class: rekey_key(alloc, change, class)?,
+        class: boxed_key(alloc, change, class)?,
     })
 }
 
@@ -153,7 +153,7 @@ fn rekey_proxy<C: NewModules>(
 {
     Ok(Expr::Proxy {
         of: rekey_boxed(alloc, change, of)?,
-        class: rekey_key(alloc, change, class)?,
+        class: boxed_key(alloc, change, class)?,
     })
 }
 
@@ -170,7 +170,7 @@ fn rekey_offset_call<C: NewModules>(
     Ok(Expr::OffsetCall {
         args: rekey_exprs(alloc, change, args)?,
         receiver: rekey_boxed(alloc, change, receiver)?,
-        method: rekey_method(alloc, change, method)?,
+        method: boxed_method(alloc, change, method)?,
     })
 }
 
@@ -188,8 +188,8 @@ fn rekey_lookup<C: NewModules>(
     Ok(Expr::Lookup {
         args: rekey_exprs(alloc, change, args)?,
         receiver: rekey_boxed(alloc, change, receiver)?,
-        name: name.copy(alloc)?,
-        result: rekey_type(alloc, change, kind)?,
+        name: name.copy_boxed(alloc)?,
+        result: boxed_type(alloc, change, kind)?,
     })
 }
 
@@ -207,8 +207,8 @@ fn rekey_dispatch<C: NewModules>(
     Ok(Expr::Dispatch {
         args: rekey_exprs(alloc, change, args)?,
         receiver: rekey_boxed(alloc, change, receiver)?,
-        name: name.copy(alloc)?,
-        result: rekey_type(alloc, change, kind)?,
+        name: name.copy_boxed(alloc)?,
+        result: boxed_type(alloc, change, kind)?,
     })
 }
 
@@ -225,7 +225,7 @@ fn rekey_parent_call<C: NewModules>(
     Ok(Expr::ParentCall {
         parent,
         args: rekey_exprs(alloc, change, args)?,
-        method: rekey_method(alloc, change, method)?,
+        method: boxed_method(alloc, change, method)?,
     })
 }
 
@@ -240,7 +240,7 @@ fn rekey_parents_call<C: NewModules>(
 {
     Ok(Expr::ParentsCall {
         args: rekey_exprs(alloc, change, args)?,
-        method: rekey_method(alloc, change, method)?,
+        method: boxed_method(alloc, change, method)?,
     })
 }
 
@@ -270,6 +270,36 @@ fn rekey_exprs<C: NewModules>(
     Ok(copies)
 }
 
+fn boxed_key<C: NewModules>(
+    alloc: Global,
+    change: &C,
+    key: &ClassKey,
+) -> Result<Boxed<ClassKey>, NoMemory>
+    ensures { IfOk result (λ k. k ≡ rekey (C.change change.now) key.now) }
+{
+    Boxed::new(alloc, rekey_key(alloc, change, key)?)
+}
+
+fn boxed_method<C: NewModules>(
+    alloc: Global,
+    change: &C,
+    method: &MethodRef,
+) -> Result<Boxed<MethodRef>, NoMemory>
+    ensures { IfOk result (λ m. m ≡ new_method (C.change change.now) method.now) }
+{
+    Boxed::new(alloc, rekey_method(alloc, change, method)?)
+}
+
+fn boxed_type<C: NewModules>(
+    alloc: Global,
+    change: &C,
+    kind: &ValueType,
+) -> Result<Boxed<ValueType>, NoMemory>
+    ensures { IfOk result (λ t. t ≡ new_type (C.change change.now) kind.now) }
+{
+    Boxed::new(alloc, rekey_type(alloc, change, kind)?)
+}
+
 /// The block under new keys.
 #[cycle(rekey_block)]
 pub fn rekey_block<C: NewModules>(
@@ -292,33 +322,33 @@ fn rekey_stmt<C: NewModules>(alloc: Global, change: &C, statement: &Stmt) -> Res
     ensures { IfOk result (λ s. s ≡ new_stmt (C.change change.now) statement.now) }
 {
     match statement {
-        Stmt::Var { kind, value } => rekey_var(alloc, change, kind, value),
+        Stmt::Var { kind, value } => rekey_var(alloc, change, kind.get(), value),
         Stmt::SetLocal { local, value } => Ok(Stmt::SetLocal {
             local: *local,
-            value: rekey_expr(alloc, change, value)?,
+            value: rekey_boxed(alloc, change, value)?,
         }),
         Stmt::SetVariable { variable, value } => Ok(Stmt::SetVariable {
             variable: *variable,
-            value: rekey_expr(alloc, change, value)?,
+            value: rekey_boxed(alloc, change, value)?,
         }),
         Stmt::If {
             condition,
             then,
             other,
-        } => rekey_if(alloc, change, condition, then, other),
-        Stmt::While { condition, block } => rekey_while(alloc, change, condition, block),
+        } => rekey_if(alloc, change, condition, then.get(), other.get()),
+        Stmt::While { condition, block } => rekey_while(alloc, change, condition, block.get()),
         Stmt::Return => Ok(Stmt::Return),
         Stmt::ReturnValue { value } => Ok(Stmt::ReturnValue {
-            value: rekey_expr(alloc, change, value)?,
+            value: rekey_boxed(alloc, change, value)?,
         }),
         Stmt::Print { value } => Ok(Stmt::Print {
-            value: rekey_expr(alloc, change, value)?,
+            value: rekey_boxed(alloc, change, value)?,
         }),
         Stmt::Free { value } => Ok(Stmt::Free {
-            value: rekey_expr(alloc, change, value)?,
+            value: rekey_boxed(alloc, change, value)?,
         }),
         Stmt::Call { call } => Ok(Stmt::Call {
-            call: rekey_expr(alloc, change, call)?,
+            call: rekey_boxed(alloc, change, call)?,
         }),
     }
 }
@@ -327,12 +357,12 @@ fn rekey_var<C: NewModules>(
     alloc: Global,
     change: &C,
     kind: &ValueType,
-    value: &Expr,
+    value: &Boxed<Expr>,
 ) -> Result<Stmt, NoMemory>
     ensures { IfOk result (λ statement. statement ≡ Stmt.Var (new_type (C.change change.now) kind.now) (new_expr (C.change change.now) value.now)) }
 {
-    let kind = rekey_type(alloc, change, kind)?;
-    let value = rekey_expr(alloc, change, value)?;
+    let kind = boxed_type(alloc, change, kind)?;
+    let value = rekey_boxed(alloc, change, value)?;
     Ok(Stmt::Var { kind, value })
 }
 
@@ -340,15 +370,15 @@ fn rekey_var<C: NewModules>(
 fn rekey_if<C: NewModules>(
     alloc: Global,
     change: &C,
-    condition: &Expr,
+    condition: &Boxed<Expr>,
     then: &Block,
     other: &Block,
 ) -> Result<Stmt, NoMemory>
     ensures { IfOk result (λ statement. statement ≡ Stmt.If (new_expr (C.change change.now) condition.now) (new_block (C.change change.now) then.now) (new_block (C.change change.now) other.now)) }
 {
-    let then = rekey_block(alloc, change, then)?;
-    let other = rekey_block(alloc, change, other)?;
-    let condition = rekey_expr(alloc, change, condition)?;
+    let then = Boxed::new(alloc, rekey_block(alloc, change, then)?)?;
+    let other = Boxed::new(alloc, rekey_block(alloc, change, other)?)?;
+    let condition = rekey_boxed(alloc, change, condition)?;
     Ok(Stmt::If {
         condition,
         then,
@@ -360,12 +390,12 @@ fn rekey_if<C: NewModules>(
 fn rekey_while<C: NewModules>(
     alloc: Global,
     change: &C,
-    condition: &Expr,
+    condition: &Boxed<Expr>,
     block: &Block,
 ) -> Result<Stmt, NoMemory>
     ensures { IfOk result (λ statement. statement ≡ Stmt.While (new_expr (C.change change.now) condition.now) (new_block (C.change change.now) block.now)) }
 {
-    let block = rekey_block(alloc, change, block)?;
-    let condition = rekey_expr(alloc, change, condition)?;
+    let block = Boxed::new(alloc, rekey_block(alloc, change, block)?)?;
+    let condition = rekey_boxed(alloc, change, condition)?;
     Ok(Stmt::While { condition, block })
 }

@@ -82,8 +82,8 @@ fn kind_in(alloc: Global, code: &Code, expr: &Expr) -> Result<Kind, TypeFault>
             let left = value_in(alloc, code, left.get())?;
             binary(*op, left, value_in(alloc, code, right.get()))
         }
-        Expr::New(class) => ruled(new_kind(&code.known, class)),
-        Expr::Class(class) => ruled(class_kind(&code.known, class)),
+        Expr::New(class) => ruled(new_kind(&code.known, class.get())),
+        Expr::Class(class) => ruled(class_kind(&code.known, class.get())),
         Expr::Manager => Ok(Kind::Class(SOM_CLASS_MGR)),
         Expr::Cast { class, of } => cast(code, class, value_in(alloc, code, of.get())),
         Expr::Isa { class, of } => isa(code, class, value_in(alloc, code, of.get())),

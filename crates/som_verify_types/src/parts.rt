@@ -9,7 +9,7 @@ ghost use Rattle.som_verify_types.specs.Codes.{IsCode, classes_in, facts_in, pla
 ghost use Rattle.std.specs.Prelude.{List as Seq, IfErr, IfOk};
 
 use crate::expressions::Code;
-use som_model::{ClassKey, MethodRef, ValueType};
+use som_model::{Boxed, ClassKey, MethodRef, ValueType};
 use som_verify_forms::{
     Kind, TypeFault, binary_kind, cast_kind, host_kind, isa_kind, named_call_kind,
     offset_call_kind, parent_call_kind, parents_call_kind, proxy_kind, unary_kind,
@@ -62,27 +62,35 @@ pub fn host(left: Kind, right: Result<Kind, TypeFault>) -> Result<Kind, TypeFaul
 }
 
 /// A cast, if its operand is of a type.
-pub fn cast(code: &Code, class: &ClassKey, part: Result<Kind, TypeFault>) -> Result<Kind, TypeFault>
+pub fn cast(
+    code: &Code,
+    class: &Boxed<ClassKey>,
+    part: Result<Kind, TypeFault>,
+) -> Result<Kind, TypeFault>
     requires code { IsCode code.now }
     requires part { IfOk part (Stands (classes_in code.now)) }
     ensures { (typed : Typed) → Types (classes_in code.now) typed part →
         Types (classes_in code.now) (then typed (typing.cast_type (facts_in code.now) class.now)) result }
 {
     match part {
-        Ok(kind) => ruled(cast_kind(&code.known, class, kind)),
+        Ok(kind) => ruled(cast_kind(&code.known, class.get(), kind)),
         Err(fault) => Err(fault),
     }
 }
 
 /// Whether an operand is of a class, if it is of a type.
-pub fn isa(code: &Code, class: &ClassKey, part: Result<Kind, TypeFault>) -> Result<Kind, TypeFault>
+pub fn isa(
+    code: &Code,
+    class: &Boxed<ClassKey>,
+    part: Result<Kind, TypeFault>,
+) -> Result<Kind, TypeFault>
     requires code { IsCode code.now }
     requires part { IfOk part (Stands (classes_in code.now)) }
     ensures { (typed : Typed) → Types (classes_in code.now) typed part →
         Types (classes_in code.now) (then typed (typing.isa_type (facts_in code.now) class.now)) result }
 {
     match part {
-        Ok(kind) => ruled(isa_kind(&code.known, class, kind)),
+        Ok(kind) => ruled(isa_kind(&code.known, class.get(), kind)),
         Err(fault) => Err(fault),
     }
 }
@@ -90,7 +98,7 @@ pub fn isa(code: &Code, class: &ClassKey, part: Result<Kind, TypeFault>) -> Resu
 /// A proxy of an operand, if that is of a type.
 pub fn proxy(
     code: &Code,
-    class: &ClassKey,
+    class: &Boxed<ClassKey>,
     part: Result<Kind, TypeFault>,
 ) -> Result<Kind, TypeFault>
     requires code { IsCode code.now }
@@ -99,7 +107,7 @@ pub fn proxy(
         Types (classes_in code.now) (then typed (typing.proxy_type (facts_in code.now) class.now)) result }
 {
     match part {
-        Ok(kind) => ruled(proxy_kind(&code.known, class, kind)),
+        Ok(kind) => ruled(proxy_kind(&code.known, class.get(), kind)),
         Err(fault) => Err(fault),
     }
 }
@@ -107,7 +115,7 @@ pub fn proxy(
 /// A call by offset, if its arguments are of types.
 pub fn offset_call(
     code: &Code,
-    method: &MethodRef,
+    method: &Boxed<MethodRef>,
     receiver: Kind,
     args: Result<Vec<Kind>, TypeFault>,
 ) -> Result<Kind, TypeFault>
@@ -118,7 +126,7 @@ pub fn offset_call(
         Types (classes_in code.now) (then typed (typing.offset_call_type (facts_in code.now) method.now (kind_at (classes_in code.now) receiver))) result }
 {
     match args {
-        Ok(args) => ruled(offset_call_kind(&code.known, method, receiver, &args)),
+        Ok(args) => ruled(offset_call_kind(&code.known, method.get(), receiver, &args)),
         Err(fault) => Err(fault),
     }
 }
@@ -126,7 +134,7 @@ pub fn offset_call(
 /// A call by name, if its arguments are of types.
 pub fn named_call(
     code: &Code,
-    answer: &ValueType,
+    answer: &Boxed<ValueType>,
     receiver: Kind,
     args: Result<Vec<Kind>, TypeFault>,
 ) -> Result<Kind, TypeFault>
@@ -136,7 +144,7 @@ pub fn named_call(
         Types (classes_in code.now) (then typed (typing.named_call_type (facts_in code.now) answer.now (kind_at (classes_in code.now) receiver))) result }
 {
     match args {
-        Ok(args) => ruled(named_call_kind(&code.known, answer, receiver, &args)),
+        Ok(args) => ruled(named_call_kind(&code.known, answer.get(), receiver, &args)),
         Err(fault) => Err(fault),
     }
 }
@@ -145,7 +153,7 @@ pub fn named_call(
 pub fn parent_call(
     code: &Code,
     parent: usize,
-    method: &MethodRef,
+    method: &Boxed<MethodRef>,
     args: Result<Vec<Kind>, TypeFault>,
 ) -> Result<Kind, TypeFault>
     requires code { IsCode code.now }
@@ -154,7 +162,7 @@ pub fn parent_call(
         Types (classes_in code.now) (then typed (typing.parent_call_type (facts_in code.now) (place_in code.now) parent method.now)) result }
 {
     match args {
-        Ok(args) => ruled(parent_call_kind(&code.known, &code.at, parent, method, &args)),
+        Ok(args) => ruled(parent_call_kind(&code.known, &code.at, parent, method.get(), &args)),
         Err(fault) => Err(fault),
     }
 }
@@ -162,7 +170,7 @@ pub fn parent_call(
 /// A call of the method of all parents, if its arguments are of types.
 pub fn parents_call(
     code: &Code,
-    method: &MethodRef,
+    method: &Boxed<MethodRef>,
     args: Result<Vec<Kind>, TypeFault>,
 ) -> Result<Kind, TypeFault>
     requires code { IsCode code.now }
@@ -171,7 +179,7 @@ pub fn parents_call(
         Types (classes_in code.now) (then typed (typing.parents_call_type (facts_in code.now) (place_in code.now) method.now)) result }
 {
     match args {
-        Ok(args) => ruled(parents_call_kind(&code.known, &code.at, method, &args)),
+        Ok(args) => ruled(parents_call_kind(&code.known, &code.at, method.get(), &args)),
         Err(fault) => Err(fault),
     }
 }

@@ -52,24 +52,52 @@ fn statement_typed(
     ensures { Scopes (all_of known.now) (stated_by known.now at.now scope.old.items statement.now) scope.old.items scope.new.items result }
 {
     match statement {
-        Stmt::Var { kind, value } => declare_local(alloc, known, at, scope, kind, value),
+        Stmt::Var { kind, value } => declare_local(
+            alloc,
+            known,
+            at,
+            scope,
+            kind.get(),
+            value.get(),
+        ),
         Stmt::SetLocal { local, value } => {
-            set_local(alloc, known, at, scope.as_slice(), *local, value)
+            set_local(alloc, known, at, scope.as_slice(), *local, value.get())
         }
         Stmt::SetVariable { variable, value } => {
-            set_variable(alloc, known, at, scope.as_slice(), *variable, value)
+            set_variable(alloc, known, at, scope.as_slice(), *variable, value.get())
         }
         Stmt::If {
             condition,
             then,
             other,
-        } => if_typed(alloc, known, at, scope, condition, then, other),
-        Stmt::While { condition, block } => while_typed(alloc, known, at, scope, condition, block),
+        } => if_typed(
+            alloc,
+            known,
+            at,
+            scope,
+            condition.get(),
+            then.get(),
+            other.get(),
+        ),
+        Stmt::While { condition, block } => while_typed(
+            alloc,
+            known,
+            at,
+            scope,
+            condition.get(),
+            block.get(),
+        ),
         Stmt::Return => return_stands(at),
-        Stmt::ReturnValue { value } => value_returns(alloc, known, at, scope.as_slice(), value),
-        Stmt::Print { value } => is_printed(alloc, known, at, scope.as_slice(), value),
-        Stmt::Free { value } => is_freed(alloc, known, at, scope.as_slice(), value),
-        Stmt::Call { call } => call_stands(alloc, known, at, scope.as_slice(), call),
+        Stmt::ReturnValue { value } => value_returns(
+            alloc,
+            known,
+            at,
+            scope.as_slice(),
+            value.get(),
+        ),
+        Stmt::Print { value } => is_printed(alloc, known, at, scope.as_slice(), value.get()),
+        Stmt::Free { value } => is_freed(alloc, known, at, scope.as_slice(), value.get()),
+        Stmt::Call { call } => call_stands(alloc, known, at, scope.as_slice(), call.get()),
     }
 }
 

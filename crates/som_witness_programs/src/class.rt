@@ -15,8 +15,8 @@ use crate::expressions::{call_on_c, only, zero_values, zero_values_with};
 use crate::keys::kernel_key;
 use crate::showing::Showing;
 use som_model::{
-    Block, Body, ClassDecl, ClassFace, ClassKey, Entry, Expr, List, MethodRef, NoMemory, Override,
-    Sig, Stmt, Text, ValueType, Variable, Way,
+    Block, Body, Boxed, ClassDecl, ClassFace, ClassKey, Entry, Expr, List, MethodRef, NoMemory,
+    Override, Sig, Stmt, Text, ValueType, Variable, Way,
 };
 use std::alloc::Global;
 
@@ -175,7 +175,12 @@ fn doing(
 }
 
 // A method that answers a value.
-fn answering(alloc: Global, name: &Text, sig: Sig, value: Expr) -> Result<ClassDecl, NoMemory>
+fn answering(
+    alloc: Global,
+    name: &Text,
+    sig: Sig,
+    value: Boxed<Expr>,
+) -> Result<ClassDecl, NoMemory>
     ensures { IfOk result (λ class. class ≡ with_g name.now sig [] (stmts.ReturnValue value ∷ [])) }
 {
     let body = only(alloc, Stmt::ReturnValue { value })?;
@@ -195,7 +200,7 @@ fn keeping_object(
     let variables = variable(alloc, ValueType::Class(ancestor.copy(alloc)?))?;
     let statement = Stmt::SetVariable {
         variable: 0,
-        value: Expr::Local(0),
+        value: Boxed::new(alloc, Expr::Local(0))?,
     };
     doing(alloc, name, params, variables, statement)
 }
@@ -246,7 +251,7 @@ fn keeping_parameter(
     let variables = variable(alloc, kind.copy(alloc)?)?;
     let statement = Stmt::SetVariable {
         variable: 0,
-        value: Expr::Local(place),
+        value: Boxed::new(alloc, Expr::Local(place))?,
     };
     let body = only(alloc, statement)?;
     with_override(alloc, name, method, variables, body)
@@ -263,7 +268,7 @@ fn returning_variable(
 {
     let variables = variable(alloc, kind.copy(alloc)?)?;
     let statement = Stmt::ReturnValue {
-        value: Expr::Variable(0),
+        value: Boxed::new(alloc, Expr::Variable(0))?,
     };
     let body = only(alloc, statement)?;
     with_override(alloc, name, method, variables, body)
@@ -297,12 +302,13 @@ fn returning_class(
 ) -> Result<ClassDecl, NoMemory>
     ensures { IfOk result (λ class. class ≡ w_class name.now method.now (ways.ReturnsClass metaclass.now)) }
 {
-    let class = method.class.copy(alloc)?;
+    let class = method.class.copy_boxed(alloc)?;
+    let value = Boxed::new(alloc, Expr::Class(class))?;
     let sig = Sig {
         params: List::new(alloc),
         result: ValueType::Class(metaclass.copy(alloc)?),
     };
-    answering(alloc, name, sig, Expr::Class(class))
+    answering(alloc, name, sig, value)
 }
 
 // It overrides the method, with this body.

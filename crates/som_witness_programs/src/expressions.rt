@@ -58,16 +58,23 @@ pub fn zero_values_with(
 }
 
 /// The call of the method on the first parameter, by its slot.
-pub fn call_on_c(alloc: Global, method: &MethodRef, args: List<Expr>) -> Result<Expr, NoMemory>
+pub fn call_on_c(
+    alloc: Global,
+    method: &MethodRef,
+    args: List<Expr>,
+) -> Result<Boxed<Expr>, NoMemory>
     ensures { IfOk result (λ call. call ≡ call_on_c method.now args) }
 {
     let receiver = Boxed::new(alloc, Expr::Local(0))?;
-    let method = method.copy(alloc)?;
-    Ok(Expr::OffsetCall {
-        method,
-        receiver,
-        args,
-    })
+    let method = method.copy_boxed(alloc)?;
+    Boxed::new(
+        alloc,
+        Expr::OffsetCall {
+            method,
+            receiver,
+            args,
+        },
+    )
 }
 
 /// A body of one statement.

@@ -13,4 +13,4 @@ returns c =
     let ks = c.as_slice.result.now in
     dispatch_made cs (facts_at s) c.args.args ks c.formed.result c.requires.args c.as_slice.ensures.value c.args.answer c.args.name c.args.name
     (typed_at cs c.args.on) c.args.on.expr refl refl
-    (c.formed.ensures cs (named_call_type (facts_at s) c.args.answer (kind_at cs c.args.on.kind) (map (kind_at cs) ks)) c.named_call_kind-kind.ensures)
+    (c.formed.ensures cs (named_call_type (facts_at s) c.args.answer (kind_at cs c.args.on.kind) (map (kind_at cs) ks)) (rw c.get.ensures at c.named_call_kind-kind.ensures))

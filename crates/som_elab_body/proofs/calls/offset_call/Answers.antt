@@ -12,7 +12,7 @@ returns c =
     let s = c.args.context.now in
     let cs = classes_at s in
     let ks = c.as_slice.result.now in
-    let method = c.in_ok-method.method in
+    let method = c.in_ok-found.found in
     offset_made cs (facts_at s) c.args.args ks c.formed.result c.requires.args c.as_slice.ensures.value (record { class = key_at cs c.args.class; name = c.args.name.now }) method
-    (typed_at cs c.args.on) c.args.on.expr c.in_ok-method.ensures refl
-    (c.formed.ensures cs (offset_call_type (facts_at s) method (kind_at cs c.args.on.kind) (map (kind_at cs) ks)) c.offset_call_kind-kind.ensures)
+    (typed_at cs c.args.on) c.args.on.expr c.in_ok-found.ensures refl
+    (rw c.in_ok-method.ensures at (c.formed.ensures cs (offset_call_type (facts_at s) method (kind_at cs c.args.on.kind) (map (kind_at cs) ks)) c.offset_call_kind-kind.ensures))

@@ -10,6 +10,6 @@ pub returns : goal.returns
 returns c =
     let s = c.args.context.now in
     let cs = classes_at s in
-    let k = c.in_ok-class.class in
-    isa_made cs (among_at s) c.args.name.now k c.formed.result c.in_ok-class.ensures (typed_at cs c.args.part) c.args.part.expr refl
-    (c.formed.ensures cs (isa_type (facts_at s) k (kind_at cs c.args.part.kind)) c.isa_kind-kind.ensures)
+    let k = c.in_ok-key.key in
+    isa_made cs (among_at s) c.args.name.now k c.formed.result c.in_ok-key.ensures (typed_at cs c.args.part) c.args.part.expr refl
+    (rw c.in_ok-class.ensures at (c.formed.ensures cs (isa_type (facts_at s) k (kind_at cs c.args.part.kind)) c.isa_kind-kind.ensures))

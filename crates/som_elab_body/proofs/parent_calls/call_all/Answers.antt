@@ -12,7 +12,7 @@ returns c =
     let s = c.args.context.now in
     let cs = classes_at s in
     let ks = c.as_slice.result.now in
-    let method = c.in_ok-method.method in
+    let method = c.in_ok-found.found in
     parents_made cs (facts_at s) c.args.args ks c.formed.result c.requires.args c.as_slice.ensures.value (place_at s) (record { class = key_at cs c.args.class; name = c.args.name.now }) method
-    c.in_ok-method.ensures
-    (c.formed.ensures cs (parents_call_type (facts_at s) (place_at s) method (map (kind_at cs) ks)) c.parents_call_kind-kind.ensures)
+    c.in_ok-found.ensures
+    (rw c.in_ok-method.ensures at (c.formed.ensures cs (parents_call_type (facts_at s) (place_at s) method (map (kind_at cs) ks)) c.parents_call_kind-kind.ensures))

@@ -18,7 +18,7 @@ returns-in-Some c =
     let kind = type_at (classes_at c.args.context.now) c.kind_of_local.result in
     kept (classes_at c.args.context.now) c.args.locals.now (ruled (set_local (among_at c.args.context.now) (names_in c.args.context.now c.args.locals.now) c.args.name.now (typed_at (classes_at c.args.context.now) c.args.made))) 17 c.kind_fits-fits.result (fits (facts_of c.args.context.now.known) kind (kind_at (classes_at c.args.context.now) c.args.made.kind)) _ c.demanded.result
     (ap (λ (z : Ruled Placed). ruled z) (local_set (among_at c.args.context.now) (names_in c.args.context.now c.args.locals.now) c.args.name.now (typed_at (classes_at c.args.context.now) c.args.made) c.in-Some.local kind (c.in-Some.ensures.is ∙ sym (place_said (classes_at c.args.context.now) c.args.locals.now c.args.name.now 0)) (c.kind_of_local.ensures.is (classes_at c.args.context.now))))
-    c.kind_fits-fits.ensures (rw c.into_inner.ensures at c.demanded.ensures)
+    c.kind_fits-fits.ensures c.demanded.ensures
 
 pub kind_fits-fits-requires-clause-wanted : goal.kind_fits-fits-requires-clause-wanted
 kind_fits-fits-requires-clause-wanted c = c.kind_of_local.ensures.stands (classes_at c.args.context.now) c.requires.locals

@@ -19,4 +19,4 @@ returns-in-Ok c =
     let kind = type_at (classes_at c.args.context.now) c.in-Ok.wanted in
     kept (classes_at c.args.context.now) c.args.locals.now (ruled (set_variable (among_at c.args.context.now) (place_at c.args.context.now) (names_in c.args.context.now c.args.locals.now) c.args.name.now (typed_at (classes_at c.args.context.now) c.args.made))) 17 c.kind_fits-fits.result (fits (facts_of c.args.context.now.known) kind (kind_at (classes_at c.args.context.now) c.args.made.kind)) _ c.demanded.result
     (ap (λ (z : Ruled Placed). ruled z) (variable_at (among_at c.args.context.now) (place_at c.args.context.now) (names_in c.args.context.now c.args.locals.now) c.args.name.now (typed_at (classes_at c.args.context.now) c.args.made) c.in-Some.variable (Ok kind) c.in-Some.ensures c.in-Ok.ensures.0))
-    c.kind_fits-fits.ensures (rw c.into_inner.ensures at c.demanded.ensures)
+    c.kind_fits-fits.ensures c.demanded.ensures

@@ -96,7 +96,7 @@ choice-returns t c =
     let g = subst (λ (z : List Local). block_in c.args.context.now z c.args.other.now ≡ Ok c.in_ok-other.other) same c.in_ok-other.ensures.makes in
     leaves (classes_at c.args.context.now) _ c.args.locals.now.items _ c.demanded.result c.requires.locals (c.in_ok-other.ensures.scope ∙ same)
     (if_kept (classes_at c.args.context.now) c.args.locals.now.items (value_in c.args.context.now c.args.locals.now.items c.args.condition.now) (typed_at (classes_at c.args.context.now) c.in_ok-expr.field-0) (block_in c.args.context.now c.args.locals.now.items c.args.then.now) (block_in c.args.context.now c.args.locals.now.items c.args.other.now) c.in_ok-then.then c.in_ok-other.other c.is_boolean.result c.demanded.result
-    (rw c.as_slice.ensures.value at c.in_ok-expr.ensures).0 c.in_ok-then.ensures.makes g (c.is_boolean.ensures (classes_at c.args.context.now)) (rw c.into_inner.ensures at c.demanded.ensures))
+    (rw c.as_slice.ensures.value at c.in_ok-expr.ensures).0 c.in_ok-then.ensures.makes g (c.is_boolean.ensures (classes_at c.args.context.now)) (rw (c.in_ok-new.ensures, c.in_ok-new-2.ensures) at c.demanded.ensures))
 
 pub repetition-returns-in_err-expr : goal.repetition-returns-in_err-expr
 repetition-returns-in_err-expr t c =
@@ -113,4 +113,4 @@ pub repetition-returns : goal.repetition-returns
 repetition-returns t c =
     leaves (classes_at c.args.context.now) _ c.args.locals.now.items _ c.demanded.result c.requires.locals c.in_ok-body.ensures.scope
     (while_kept (classes_at c.args.context.now) c.args.locals.now.items (value_in c.args.context.now c.args.locals.now.items c.args.condition.now) (typed_at (classes_at c.args.context.now) c.in_ok-expr.field-0) (block_in c.args.context.now c.args.locals.now.items c.args.body.now) c.in_ok-body.body c.is_boolean.result c.demanded.result
-    (rw c.as_slice.ensures.value at c.in_ok-expr.ensures).0 c.in_ok-body.ensures.makes (c.is_boolean.ensures (classes_at c.args.context.now)) (rw c.into_inner.ensures at c.demanded.ensures))
+    (rw c.as_slice.ensures.value at c.in_ok-expr.ensures).0 c.in_ok-body.ensures.makes (c.is_boolean.ensures (classes_at c.args.context.now)) (rw c.in_ok-new.ensures at c.demanded.ensures))

@@ -67,14 +67,14 @@ kind_in-returns-in-New t c =
     let code = c.args.code.now in
     let e = c.in-New in
     types_as (classes_in code) (typed_in code) _ _ _ c.ruled-in-New.result e.is (new_typed (facts_in code) (place_in code) (map (type_at (classes_in code)) code.scope.now) e.class)
-    (c.ruled-in-New.ensures (classes_in code) _ c.new_kind.ensures)
+    (c.ruled-in-New.ensures (classes_in code) _ (rw c.get-in-New.ensures at c.new_kind.ensures))
 
 pub kind_in-returns-in-Class : goal.kind_in-returns-in-Class
 kind_in-returns-in-Class t c =
     let code = c.args.code.now in
     let e = c.in-Class in
     types_as (classes_in code) (typed_in code) _ _ _ c.ruled-in-Class.result e.is (class_typed (facts_in code) (place_in code) (map (type_at (classes_in code)) code.scope.now) e.class)
-    (c.ruled-in-Class.ensures (classes_in code) _ c.class_kind.ensures)
+    (c.ruled-in-Class.ensures (classes_in code) _ (rw c.get-in-Class.ensures at c.class_kind.ensures))
 
 pub kind_in-returns-in-Unary : goal.kind_in-returns-in-Unary
 kind_in-returns-in-Unary t c =

@@ -10,7 +10,7 @@ offset_call_kind-requires-clause-args c = subst (AllStand (classes_in c.args.cod
 
 pub returns-in-Ok : goal.returns-in-Ok
 returns-in-Ok c = λ typed kinds fault.
-    c.ruled.ensures (classes_in c.args.code.now) _ (comes_all (classes_in c.args.code.now) typed (offset_call_type (facts_in c.args.code.now) c.args.method.now (kind_at (classes_in c.args.code.now) c.args.receiver)) c.in-Ok.args.items c.deref.result.now c.offset_call_kind.result (rw c.in-Ok.is at kinds) c.deref.ensures.value c.offset_call_kind.ensures)
+    c.ruled.ensures (classes_in c.args.code.now) _ (comes_all (classes_in c.args.code.now) typed (offset_call_type (facts_in c.args.code.now) c.args.method.now (kind_at (classes_in c.args.code.now) c.args.receiver)) c.in-Ok.args.items c.deref.result.now c.offset_call_kind.result (rw c.in-Ok.is at kinds) c.deref.ensures.value (rw c.get.ensures at c.offset_call_kind.ensures))
 
 pub returns-in-Err : goal.returns-in-Err
 returns-in-Err c = λ typed kinds fault. fails_on typed (offset_call_type (facts_in c.args.code.now) c.args.method.now (kind_at (classes_in c.args.code.now) c.args.receiver)) c.in-Err.fault (rw c.in-Err.is at fault)

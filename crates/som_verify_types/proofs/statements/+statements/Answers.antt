@@ -28,27 +28,27 @@ block_typed-returns t c = rw (c.truncate.ensures.items, c.as_slice-before.ensure
 pub statement_typed-returns-in-Var : goal.statement_typed-returns-in-Var
 statement_typed-returns-in-Var t c =
     formed (all_of c.args.known.now) (stated_by c.args.known.now c.args.at.now c.args.scope.now.items c.args.statement.now) _ c.args.scope.now.items _ c.declare_local.result
-    (ap (stated_by c.args.known.now c.args.at.now c.args.scope.now.items) c.in-Var.is ∙ forms.var_typed (facts_of c.args.known.now) (code_at (all_of c.args.known.now) c.args.at.now) (scope_at (all_of c.args.known.now) c.args.scope.now.items) c.in-Var.kind c.in-Var.value) c.declare_local.ensures
+    (ap (stated_by c.args.known.now c.args.at.now c.args.scope.now.items) c.in-Var.is ∙ forms.var_typed (facts_of c.args.known.now) (code_at (all_of c.args.known.now) c.args.at.now) (scope_at (all_of c.args.known.now) c.args.scope.now.items) c.in-Var.kind c.in-Var.value) (rw (c.get.ensures, c.get-in-Var.ensures) at c.declare_local.ensures)
 
 pub statement_typed-returns-in-SetLocal : goal.statement_typed-returns-in-SetLocal
 statement_typed-returns-in-SetLocal t c =
     plainly (all_of c.args.known.now) (stated_by c.args.known.now c.args.at.now c.args.scope.now.items c.args.statement.now) (λ shown. then_scope (valued_by c.args.known.now c.args.at.now shown c.in-SetLocal.value) (local_set (facts_of c.args.known.now) (scope_at (all_of c.args.known.now) shown) c.in-SetLocal.local)) c.args.scope.now.items _ c.set_local.result c.requires.scope c.as_slice.ensures.value
-    (ap (stated_by c.args.known.now c.args.at.now c.args.scope.now.items) c.in-SetLocal.is ∙ forms.set_local_typed (facts_of c.args.known.now) (code_at (all_of c.args.known.now) c.args.at.now) (scope_at (all_of c.args.known.now) c.args.scope.now.items) c.in-SetLocal.local c.in-SetLocal.value) c.set_local.ensures
+    (ap (stated_by c.args.known.now c.args.at.now c.args.scope.now.items) c.in-SetLocal.is ∙ forms.set_local_typed (facts_of c.args.known.now) (code_at (all_of c.args.known.now) c.args.at.now) (scope_at (all_of c.args.known.now) c.args.scope.now.items) c.in-SetLocal.local c.in-SetLocal.value) (rw c.get-in-SetLocal.ensures at c.set_local.ensures)
 
 pub statement_typed-returns-in-SetVariable : goal.statement_typed-returns-in-SetVariable
 statement_typed-returns-in-SetVariable t c =
     plainly (all_of c.args.known.now) (stated_by c.args.known.now c.args.at.now c.args.scope.now.items c.args.statement.now) (λ shown. then_scope (valued_by c.args.known.now c.args.at.now shown c.in-SetVariable.value) (variable_set (facts_of c.args.known.now) (code_at (all_of c.args.known.now) c.args.at.now) (scope_at (all_of c.args.known.now) shown) c.in-SetVariable.variable)) c.args.scope.now.items _ c.set_variable.result c.requires.scope c.as_slice-in-SetVariable.ensures.value
-    (ap (stated_by c.args.known.now c.args.at.now c.args.scope.now.items) c.in-SetVariable.is ∙ forms.set_variable_typed (facts_of c.args.known.now) (code_at (all_of c.args.known.now) c.args.at.now) (scope_at (all_of c.args.known.now) c.args.scope.now.items) c.in-SetVariable.variable c.in-SetVariable.value) c.set_variable.ensures
+    (ap (stated_by c.args.known.now c.args.at.now c.args.scope.now.items) c.in-SetVariable.is ∙ forms.set_variable_typed (facts_of c.args.known.now) (code_at (all_of c.args.known.now) c.args.at.now) (scope_at (all_of c.args.known.now) c.args.scope.now.items) c.in-SetVariable.variable c.in-SetVariable.value) (rw c.get-in-SetVariable.ensures at c.set_variable.ensures)
 
 pub statement_typed-returns-in-If : goal.statement_typed-returns-in-If
 statement_typed-returns-in-If t c =
     formed (all_of c.args.known.now) (stated_by c.args.known.now c.args.at.now c.args.scope.now.items c.args.statement.now) _ c.args.scope.now.items _ c.if_typed.result
-    (ap (stated_by c.args.known.now c.args.at.now c.args.scope.now.items) c.in-If.is ∙ forms.if_typed (facts_of c.args.known.now) (code_at (all_of c.args.known.now) c.args.at.now) (scope_at (all_of c.args.known.now) c.args.scope.now.items) c.in-If.condition c.in-If.then c.in-If.other) c.if_typed.ensures
+    (ap (stated_by c.args.known.now c.args.at.now c.args.scope.now.items) c.in-If.is ∙ forms.if_typed (facts_of c.args.known.now) (code_at (all_of c.args.known.now) c.args.at.now) (scope_at (all_of c.args.known.now) c.args.scope.now.items) c.in-If.condition c.in-If.then c.in-If.other) (rw (c.get-in-If.ensures, c.get-in-If-2.ensures, c.get-in-If-3.ensures) at c.if_typed.ensures)
 
 pub statement_typed-returns-in-While : goal.statement_typed-returns-in-While
 statement_typed-returns-in-While t c =
     formed (all_of c.args.known.now) (stated_by c.args.known.now c.args.at.now c.args.scope.now.items c.args.statement.now) _ c.args.scope.now.items _ c.while_typed.result
-    (ap (stated_by c.args.known.now c.args.at.now c.args.scope.now.items) c.in-While.is ∙ forms.while_typed (facts_of c.args.known.now) (code_at (all_of c.args.known.now) c.args.at.now) (scope_at (all_of c.args.known.now) c.args.scope.now.items) c.in-While.condition c.in-While.block) c.while_typed.ensures
+    (ap (stated_by c.args.known.now c.args.at.now c.args.scope.now.items) c.in-While.is ∙ forms.while_typed (facts_of c.args.known.now) (code_at (all_of c.args.known.now) c.args.at.now) (scope_at (all_of c.args.known.now) c.args.scope.now.items) c.in-While.condition c.in-While.block) (rw (c.get-in-While.ensures, c.get-in-While-2.ensures) at c.while_typed.ensures)
 
 pub statement_typed-returns-in-Return : goal.statement_typed-returns-in-Return
 statement_typed-returns-in-Return t c =
@@ -58,22 +58,22 @@ statement_typed-returns-in-Return t c =
 pub statement_typed-returns-in-ReturnValue : goal.statement_typed-returns-in-ReturnValue
 statement_typed-returns-in-ReturnValue t c =
     plainly (all_of c.args.known.now) (stated_by c.args.known.now c.args.at.now c.args.scope.now.items c.args.statement.now) (λ shown. then_scope (valued_by c.args.known.now c.args.at.now shown c.in-ReturnValue.value) (value_return (facts_of c.args.known.now) (code_at (all_of c.args.known.now) c.args.at.now) (scope_at (all_of c.args.known.now) shown))) c.args.scope.now.items _ c.value_returns.result c.requires.scope c.as_slice-in-ReturnValue.ensures.value
-    (ap (stated_by c.args.known.now c.args.at.now c.args.scope.now.items) c.in-ReturnValue.is ∙ forms.value_return_typed (facts_of c.args.known.now) (code_at (all_of c.args.known.now) c.args.at.now) (scope_at (all_of c.args.known.now) c.args.scope.now.items) c.in-ReturnValue.value) c.value_returns.ensures
+    (ap (stated_by c.args.known.now c.args.at.now c.args.scope.now.items) c.in-ReturnValue.is ∙ forms.value_return_typed (facts_of c.args.known.now) (code_at (all_of c.args.known.now) c.args.at.now) (scope_at (all_of c.args.known.now) c.args.scope.now.items) c.in-ReturnValue.value) (rw c.get-in-ReturnValue.ensures at c.value_returns.ensures)
 
 pub statement_typed-returns-in-Print : goal.statement_typed-returns-in-Print
 statement_typed-returns-in-Print t c =
     plainly (all_of c.args.known.now) (stated_by c.args.known.now c.args.at.now c.args.scope.now.items c.args.statement.now) (λ shown. then_scope (valued_by c.args.known.now c.args.at.now shown c.in-Print.value) (λ t. needs 17 (has_text t) (Ok (scope_at (all_of c.args.known.now) shown)))) c.args.scope.now.items _ c.is_printed.result c.requires.scope c.as_slice-in-Print.ensures.value
-    (ap (stated_by c.args.known.now c.args.at.now c.args.scope.now.items) c.in-Print.is ∙ forms.print_typed (facts_of c.args.known.now) (code_at (all_of c.args.known.now) c.args.at.now) (scope_at (all_of c.args.known.now) c.args.scope.now.items) c.in-Print.value) c.is_printed.ensures
+    (ap (stated_by c.args.known.now c.args.at.now c.args.scope.now.items) c.in-Print.is ∙ forms.print_typed (facts_of c.args.known.now) (code_at (all_of c.args.known.now) c.args.at.now) (scope_at (all_of c.args.known.now) c.args.scope.now.items) c.in-Print.value) (rw c.get-in-Print.ensures at c.is_printed.ensures)
 
 pub statement_typed-returns-in-Free : goal.statement_typed-returns-in-Free
 statement_typed-returns-in-Free t c =
     plainly (all_of c.args.known.now) (stated_by c.args.known.now c.args.at.now c.args.scope.now.items c.args.statement.now) (λ shown. then_scope (valued_by c.args.known.now c.args.at.now shown c.in-Free.value) (λ t. needs 17 (is_class t) (Ok (scope_at (all_of c.args.known.now) shown)))) c.args.scope.now.items _ c.is_freed.result c.requires.scope c.as_slice-in-Free.ensures.value
-    (ap (stated_by c.args.known.now c.args.at.now c.args.scope.now.items) c.in-Free.is ∙ forms.free_typed (facts_of c.args.known.now) (code_at (all_of c.args.known.now) c.args.at.now) (scope_at (all_of c.args.known.now) c.args.scope.now.items) c.in-Free.value) c.is_freed.ensures
+    (ap (stated_by c.args.known.now c.args.at.now c.args.scope.now.items) c.in-Free.is ∙ forms.free_typed (facts_of c.args.known.now) (code_at (all_of c.args.known.now) c.args.at.now) (scope_at (all_of c.args.known.now) c.args.scope.now.items) c.in-Free.value) (rw c.get-in-Free.ensures at c.is_freed.ensures)
 
 pub statement_typed-returns-in-Call : goal.statement_typed-returns-in-Call
 statement_typed-returns-in-Call t c =
     plainly (all_of c.args.known.now) (stated_by c.args.known.now c.args.at.now c.args.scope.now.items c.args.statement.now) (λ shown. call_statement (facts_of c.args.known.now) (code_at (all_of c.args.known.now) c.args.at.now) (scope_at (all_of c.args.known.now) shown) c.in-Call.call) c.args.scope.now.items _ c.call_stands.result c.requires.scope c.as_slice-in-Call.ensures.value
-    (ap (stated_by c.args.known.now c.args.at.now c.args.scope.now.items) c.in-Call.is ∙ forms.call_typed (facts_of c.args.known.now) (code_at (all_of c.args.known.now) c.args.at.now) (scope_at (all_of c.args.known.now) c.args.scope.now.items) c.in-Call.call) c.call_stands.ensures
+    (ap (stated_by c.args.known.now c.args.at.now c.args.scope.now.items) c.in-Call.is ∙ forms.call_typed (facts_of c.args.known.now) (code_at (all_of c.args.known.now) c.args.at.now) (scope_at (all_of c.args.known.now) c.args.scope.now.items) c.in-Call.call) (rw c.get-in-Call.ensures at c.call_stands.ensures)
 
 pub if_typed-returns-in_err-tested : goal.if_typed-returns-in_err-tested
 if_typed-returns-in_err-tested t c =
