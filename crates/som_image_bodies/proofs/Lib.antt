@@ -1,0 +1,5 @@
+pub mod Levels
+pub mod Naming
+pub mod NamedExprs
+pub mod NamedStmts
+pub mod Known

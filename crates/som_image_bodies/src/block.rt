@@ -9,9 +9,10 @@ ghost use Rattle.som_image_decode.specs.Naming.{ranges_in};
 ghost use Rattle.som_image_bodies.specs.Naming.{naming};
 ghost use Rattle.std.specs.Prelude.{◌≡◌, ◌+◌, ◌≤◌, length, IfOk};
 
+use crate::stmt::read_statements;
 use som_image_decode::Directory;
 use som_image_fields::{ImageFault, Ranges, Read};
-use som_model::{Block, List};
+use som_model::{Block, List, MAX_NESTING};
 use std::alloc::Global;
 
 /// Reads a block at a place to the block that it stands for, whose statements have this level: 1 in a body, and at most one
@@ -32,5 +33,5 @@ pub fn read_block(
     ensures exact { Gives result (naming (block_named directory.now) (block_at (levels_left level) ranges.now bytes.now place)) }
     ensures next { IfOk result (λ r. r.next ≤ length bytes.now) }
 {
-    Err(ImageFault::NoMemory)
+    read_statements(alloc, bytes, place, directory, ranges, MAX_NESTING as u8 + 1 - level)
 }

@@ -5,5 +5,10 @@
 #![tactic(auto)]
 
 mod block;
+mod call;
+mod expr;
+mod operand;
+mod pair;
+mod stmt;
 
 pub use block::read_block;
