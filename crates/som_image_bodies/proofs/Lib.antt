@@ -2,4 +2,3 @@ pub mod Levels
 pub mod Naming
 pub mod NamedExprs
 pub mod NamedStmts
-pub mod Known

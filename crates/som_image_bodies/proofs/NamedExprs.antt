@@ -96,59 +96,59 @@ module _ (d : Directory) where
 
   module _ (ranges : Ranges) (inner : Reads WireExpr) (other : Reads Expr) (same : (bytes : List ℕ) (place : ℕ) → naming name (inner bytes place) ≡ other bytes place) (bytes : List ℕ) where
     args : (place : ℕ) → naming (map name) (args_at inner bytes place) ≡ named_args_at other bytes place
-    args place = after (map name) (number_at w8 bytes place) (λ count. either (map name) (nat_lt count.value 0 || nat_lt MAX_PARAMETERS count.value) refl (many_named name (inner bytes) (other bytes) (same bytes) count.value count.next))
+    args place = after (map name) (number_at w8 bytes place) _ _ (λ count. either (map name) (nat_lt count.value 0 || nat_lt MAX_PARAMETERS count.value) _ _ _ _ refl (many_named name (inner bytes) (other bytes) (same bytes) count.value count.next))
 
     module _ (place : ℕ) (tag : Read ℕ) where
       parent_calls : naming name (parent_call_after ranges inner bytes place tag) ≡ named_parent_call_after d ranges other bytes place tag
       parent_calls =
-          either name (eqb tag.value 0x32) (after name (number_at w8 bytes tag.next) (λ n. after name (method_at ranges bytes n.next) (λ m. step name (map name) (args m.next) (λ es. made es.next (is_parent_call n.value m.value es.value)))))
-          (either name (eqb tag.value 0x33) (after name (method_at ranges bytes tag.next) (λ m. step name (map name) (args m.next) (λ es. made es.next (is_parents_call m.value es.value)))) refl)
+          either name (eqb tag.value 0x32) _ _ _ _ (after name (number_at w8 bytes tag.next) _ _ (λ n. after name (method_at ranges bytes n.next) _ _ (λ m. step name (map name) _ _ _ _ (args m.next) (λ es. made es.next (is_parent_call n.value m.value es.value)))))
+          (either name (eqb tag.value 0x33) _ _ _ _ (after name (method_at ranges bytes tag.next) _ _ (λ m. step name (map name) _ _ _ _ (args m.next) (λ es. made es.next (is_parents_call m.value es.value)))) refl)
 
       lookups : naming name (named_call_after ranges inner bytes place tag) ≡ named_lookup_after d ranges other bytes place tag
       lookups =
-          either name (eqb tag.value 0x30) (after name (kind_at ranges.classes true bytes tag.next) (λ t. after name (text_at bytes t.next) (λ n. step name name (same bytes n.next) (λ e. step name (map name) (args e.next) (λ es. made es.next (is_lookup t.value n.value e.value es.value))))))
-          (either name (eqb tag.value 0x31) (after name (kind_at ranges.classes true bytes tag.next) (λ t. after name (text_at bytes t.next) (λ n. step name name (same bytes n.next) (λ e. step name (map name) (args e.next) (λ es. made es.next (is_dispatch t.value n.value e.value es.value))))))
+          either name (eqb tag.value 0x30) _ _ _ _ (after name (kind_at ranges.classes true bytes tag.next) _ _ (λ t. after name (text_at bytes t.next) _ _ (λ n. step name name _ _ _ _ (same bytes n.next) (λ e. step name (map name) _ _ _ _ (args e.next) (λ es. made es.next (is_lookup t.value n.value e.value es.value))))))
+          (either name (eqb tag.value 0x31) _ _ _ _ (after name (kind_at ranges.classes true bytes tag.next) _ _ (λ t. after name (text_at bytes t.next) _ _ (λ n. step name name _ _ _ _ (same bytes n.next) (λ e. step name (map name) _ _ _ _ (args e.next) (λ es. made es.next (is_dispatch t.value n.value e.value es.value))))))
           parent_calls)
 
       calls : naming name (call_after ranges inner bytes place tag) ≡ calls_after d ranges other bytes place tag
-      calls = either name (eqb tag.value 0x2f) (after name (method_at ranges bytes tag.next) (λ m. step name name (same bytes m.next) (λ e. step name (map name) (args e.next) (λ es. made es.next (is_offset_call m.value e.value es.value))))) lookups
+      calls = either name (eqb tag.value 0x2f) _ _ _ _ (after name (method_at ranges bytes tag.next) _ _ (λ m. step name name _ _ _ _ (same bytes m.next) (λ e. step name (map name) _ _ _ _ (args e.next) (λ es. made es.next (is_offset_call m.value e.value es.value))))) lookups
 
       pairs : naming name (pair_after ranges inner bytes place tag) ≡ named_pair_after d ranges other bytes place tag
       pairs =
-          either name (eqb tag.value 0x28) (after name (operator_at 14 bytes tag.next) (λ op. step name name (same bytes op.next) (λ a. step name name (same bytes a.next) (λ b. made b.next (is_binary op.value a.value b.value)))))
-          (either name (eqb tag.value 0x34) (after name (host_at bytes tag.next) (λ code. step name name (same bytes code.next) (λ a. step name name (same bytes a.next) (λ b. made b.next (is_host code.value a.value b.value))))) calls)
+          either name (eqb tag.value 0x28) _ _ _ _ (after name (operator_at 14 bytes tag.next) _ _ (λ op. step name name _ _ _ _ (same bytes op.next) (λ a. step name name _ _ _ _ (same bytes a.next) (λ b. made b.next (is_binary op.value a.value b.value)))))
+          (either name (eqb tag.value 0x34) _ _ _ _ (after name (host_at bytes tag.next) _ _ (λ code. step name name _ _ _ _ (same bytes code.next) (λ a. step name name _ _ _ _ (same bytes a.next) (λ b. made b.next (is_host code.value a.value b.value))))) calls)
 
       class_forms : naming name (class_form_after ranges inner bytes place tag) ≡ named_class_form_after d ranges other bytes place tag
       class_forms =
-          either name (eqb tag.value 0x2c) (after name (below_at ranges.classes bytes tag.next) (λ c. step name name (same bytes c.next) (λ e. made e.next (is_cast c.value e.value))))
-          (either name (eqb tag.value 0x2d) (after name (below_at ranges.classes bytes tag.next) (λ c. step name name (same bytes c.next) (λ e. made e.next (is_isa c.value e.value))))
-          (either name (eqb tag.value 0x2e) (after name (below_at ranges.classes bytes tag.next) (λ c. step name name (same bytes c.next) (λ e. made e.next (is_proxy c.value e.value)))) pairs))
+          either name (eqb tag.value 0x2c) _ _ _ _ (after name (below_at ranges.classes bytes tag.next) _ _ (λ c. step name name _ _ _ _ (same bytes c.next) (λ e. made e.next (is_cast c.value e.value))))
+          (either name (eqb tag.value 0x2d) _ _ _ _ (after name (below_at ranges.classes bytes tag.next) _ _ (λ c. step name name _ _ _ _ (same bytes c.next) (λ e. made e.next (is_isa c.value e.value))))
+          (either name (eqb tag.value 0x2e) _ _ _ _ (after name (below_at ranges.classes bytes tag.next) _ _ (λ c. step name name _ _ _ _ (same bytes c.next) (λ e. made e.next (is_proxy c.value e.value)))) pairs))
 
       operations : naming name (operation_after ranges inner bytes place tag) ≡ named_operation_after d ranges other bytes place tag
-      operations = either name (eqb tag.value 0x27) (after name (operator_at 4 bytes tag.next) (λ op. step name name (same bytes op.next) (λ e. made e.next (is_unary op.value e.value)))) class_forms
+      operations = either name (eqb tag.value 0x27) _ _ _ _ (after name (operator_at 4 bytes tag.next) _ _ (λ op. step name name _ _ _ _ (same bytes op.next) (λ e. made e.next (is_unary op.value e.value)))) class_forms
 
       forms : naming name (expr_after ranges inner bytes place tag) ≡ named_expr_after d ranges other bytes place tag
       forms =
-          either name (eqb tag.value 0x20) (after name (signed_at bytes tag.next) (λ z. made z.next (is_long z.value)))
-          (either name (eqb tag.value 0x21) (after name (text_at bytes tag.next) (λ t. made t.next (is_str t.value)))
-          (either name (eqb tag.value 0x22) (after name (truth_at bytes tag.next) (λ b. made b.next (is_boolean b.value)))
-          (either name (eqb tag.value 0x23) (made tag.next is_nil)
-          (either name (eqb tag.value 0x24) (after name (number_at w16 bytes tag.next) (λ n. made n.next (is_local n.value)))
-          (either name (eqb tag.value 0x25) (made tag.next is_me)
-          (either name (eqb tag.value 0x26) (after name (number_at w8 bytes tag.next) (λ n. made n.next (is_variable n.value)))
-          (either name (eqb tag.value 0x29) (after name (below_at ranges.classes bytes tag.next) (λ c. made c.next (is_new c.value)))
-          (either name (eqb tag.value 0x2a) (after name (below_at ranges.classes bytes tag.next) (λ c. made c.next (is_class c.value)))
-          (either name (eqb tag.value 0x2b) (made tag.next is_manager) operations)))))))))
+          either name (eqb tag.value 0x20) _ _ _ _ (after name (signed_at bytes tag.next) _ _ (λ z. made z.next (is_long z.value)))
+          (either name (eqb tag.value 0x21) _ _ _ _ (after name (text_at bytes tag.next) _ _ (λ t. made t.next (is_str t.value)))
+          (either name (eqb tag.value 0x22) _ _ _ _ (after name (truth_at bytes tag.next) _ _ (λ b. made b.next (is_boolean b.value)))
+          (either name (eqb tag.value 0x23) _ _ _ _ (made tag.next is_nil)
+          (either name (eqb tag.value 0x24) _ _ _ _ (after name (number_at w16 bytes tag.next) _ _ (λ n. made n.next (is_local n.value)))
+          (either name (eqb tag.value 0x25) _ _ _ _ (made tag.next is_me)
+          (either name (eqb tag.value 0x26) _ _ _ _ (after name (number_at w8 bytes tag.next) _ _ (λ n. made n.next (is_variable n.value)))
+          (either name (eqb tag.value 0x29) _ _ _ _ (after name (below_at ranges.classes bytes tag.next) _ _ (λ c. made c.next (is_new c.value)))
+          (either name (eqb tag.value 0x2a) _ _ _ _ (after name (below_at ranges.classes bytes tag.next) _ _ (λ c. made c.next (is_class c.value)))
+          (either name (eqb tag.value 0x2b) _ _ _ _ (made tag.next is_manager) operations)))))))))
 
   -- ---- where so many levels are left
 
   module _ (ranges : Ranges) where
     pub expr_is : (left : ℕ) (bytes : List ℕ) (place : ℕ) → naming (expr_named d) (expr_at left ranges bytes place) ≡ named_expr_at d left ranges bytes place
     unfolding expr_at named_expr_at
-    expr_is zero bytes place = after name (number_at w8 bytes place) (λ tag. refl)
-    expr_is (suc left) bytes place = after name (number_at w8 bytes place) (λ tag. forms ranges (expr_at left ranges) (named_expr_at d left ranges) (expr_is left) bytes place tag)
+    expr_is zero bytes place = after name (number_at w8 bytes place) _ _ (λ tag. refl)
+    expr_is (suc left) bytes place = after name (number_at w8 bytes place) _ _ (λ tag. forms ranges (expr_at left ranges) (named_expr_at d left ranges) (expr_is left) bytes place tag)
 
     pub call_is : (left : ℕ) (bytes : List ℕ) (place : ℕ) → naming (expr_named d) (call_at left ranges bytes place) ≡ named_call_at d left ranges bytes place
     unfolding call_at named_call_at
-    call_is zero bytes place = after name (number_at w8 bytes place) (λ tag. refl)
-    call_is (suc left) bytes place = after name (number_at w8 bytes place) (λ tag. calls ranges (expr_at left ranges) (named_expr_at d left ranges) (expr_is left) bytes place tag)
+    call_is zero bytes place = after name (number_at w8 bytes place) _ _ (λ tag. refl)
+    call_is (suc left) bytes place = after name (number_at w8 bytes place) _ _ (λ tag. calls ranges (expr_at left ranges) (named_expr_at d left ranges) (expr_is left) bytes place tag)

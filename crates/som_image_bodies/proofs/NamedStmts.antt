@@ -11,7 +11,7 @@ use Rattle.som_image_fields.specs.declared.method.Ranges.{Ranges}
 use Rattle.som_image_fields.specs.Fields.{many_at}
 use Rattle.som_image_fields.specs.Reading.{number_at, kind_at}
 use Rattle.som_image_fields.specs.declared.syntax.WireExpr.{WireExpr}
-use Rattle.som_image_fields.specs.declared.syntax.WireStmt.{WireStmt, fold-roll-WireStmt}
+use Rattle.som_image_fields.specs.declared.syntax.WireStmt.{WireStmt, roll-WireStmt, map-WireStmt, fold-roll-WireStmt}
 use Rattle.som_image_fields.specs.declared.syntax.WireStmt.TheOpen.{WireStmt-F}
 use Rattle.som_image_fields.specs.declared.syntax.WireStmt.TheVariants as wires
 use Rattle.som_image_fields.specs.declared.syntax.WireBlock.{WireBlock, fold-roll-WireBlock}
@@ -34,7 +34,7 @@ module _ (d : Directory) where
   abbrev block : WireBlock → Block
   block b = block_named d b
 
-  rolled : (layer : WireStmt-F WireStmt WireBlock) → _
+  rolled : (layer : WireStmt-F WireStmt WireBlock) → name (roll-WireStmt layer) ≡ stmt_named_step d (map-WireStmt WireStmt WireBlock Stmt Block name block layer)
   rolled layer = fold-roll-WireStmt Stmt Block (stmt_named_step d) block_named_step layer
 
   -- ---- what each form stands for
@@ -75,7 +75,7 @@ module _ (d : Directory) where
   -- ---- blocks, where their statements are read with names
 
   blocks : (one : Reads WireStmt) (other : Reads Stmt) → ((bytes : List ℕ) (place : ℕ) → naming name (one bytes place) ≡ other bytes place) → (bytes : List ℕ) (place : ℕ) → naming block (statements_at one bytes place) ≡ named_statements_at other bytes place
-  blocks one other same bytes place = after block (number_at w32 bytes place) (λ count. step block (map name) (many_named name (one bytes) (other bytes) (same bytes) count.value count.next) (λ ss. made ss.next (is_block ss.value)))
+  blocks one other same bytes place = after block (number_at w32 bytes place) _ _ (λ count. step block (map name) _ _ _ _ (many_named name (one bytes) (other bytes) (same bytes) count.value count.next) (λ ss. made ss.next (is_block ss.value)))
 
   -- ---- what follows a tag, where the expressions and blocks in it are read with names
 
@@ -85,31 +85,31 @@ module _ (d : Directory) where
 
     flows : naming name (flow_after (expr_at left ranges) inner bytes place tag) ≡ named_flow_after (named_expr_at d left ranges) other bytes place tag
     flows =
-        either name (eqb tag.value 0x04) (step name expr (exprs tag.next) (λ e. step name block (same bytes e.next) (λ a. step name block (same bytes a.next) (λ b. made b.next (is_if e.value a.value b.value)))))
-        (either name (eqb tag.value 0x05) (step name expr (exprs tag.next) (λ e. step name block (same bytes e.next) (λ b. made b.next (is_while e.value b.value)))) refl)
+        either name (eqb tag.value 0x04) _ _ _ _ (step name expr _ _ _ _ (exprs tag.next) (λ e. step name block _ _ _ _ (same bytes e.next) (λ a. step name block _ _ _ _ (same bytes a.next) (λ b. made b.next (is_if e.value a.value b.value)))))
+        (either name (eqb tag.value 0x05) _ _ _ _ (step name expr _ _ _ _ (exprs tag.next) (λ e. step name block _ _ _ _ (same bytes e.next) (λ b. made b.next (is_while e.value b.value)))) refl)
 
     plains : naming name (plain_after (expr_at left ranges) (call_at left ranges) inner bytes place tag) ≡ named_plain_after (named_expr_at d left ranges) (named_call_at d left ranges) other bytes place tag
     plains =
-        either name (eqb tag.value 0x06) (made tag.next is_return)
-        (either name (eqb tag.value 0x07) (step name expr (exprs tag.next) (λ e. made e.next (is_return_value e.value)))
-        (either name (eqb tag.value 0x08) (step name expr (exprs tag.next) (λ e. made e.next (is_print e.value)))
-        (either name (eqb tag.value 0x09) (step name expr (exprs tag.next) (λ e. made e.next (is_free e.value)))
-        (either name (eqb tag.value 0x0a) (step name expr (call_is d ranges left bytes tag.next) (λ e. made e.next (is_call e.value))) flows))))
+        either name (eqb tag.value 0x06) _ _ _ _ (made tag.next is_return)
+        (either name (eqb tag.value 0x07) _ _ _ _ (step name expr _ _ _ _ (exprs tag.next) (λ e. made e.next (is_return_value e.value)))
+        (either name (eqb tag.value 0x08) _ _ _ _ (step name expr _ _ _ _ (exprs tag.next) (λ e. made e.next (is_print e.value)))
+        (either name (eqb tag.value 0x09) _ _ _ _ (step name expr _ _ _ _ (exprs tag.next) (λ e. made e.next (is_free e.value)))
+        (either name (eqb tag.value 0x0a) _ _ _ _ (step name expr _ _ _ _ (call_is d ranges left bytes tag.next) (λ e. made e.next (is_call e.value))) flows))))
 
     forms : naming name (stmt_after ranges (expr_at left ranges) (call_at left ranges) inner bytes place tag) ≡ named_stmt_after d ranges (named_expr_at d left ranges) (named_call_at d left ranges) other bytes place tag
     forms =
-        either name (eqb tag.value 0x01) (after name (kind_at ranges.classes false bytes tag.next) (λ t. step name expr (exprs t.next) (λ e. made e.next (is_var t.value e.value))))
-        (either name (eqb tag.value 0x02) (after name (number_at w16 bytes tag.next) (λ n. step name expr (exprs n.next) (λ e. made e.next (is_set_local n.value e.value))))
-        (either name (eqb tag.value 0x03) (after name (number_at w8 bytes tag.next) (λ n. step name expr (exprs n.next) (λ e. made e.next (is_set_variable n.value e.value)))) plains))
+        either name (eqb tag.value 0x01) _ _ _ _ (after name (kind_at ranges.classes false bytes tag.next) _ _ (λ t. step name expr _ _ _ _ (exprs t.next) (λ e. made e.next (is_var t.value e.value))))
+        (either name (eqb tag.value 0x02) _ _ _ _ (after name (number_at w16 bytes tag.next) _ _ (λ n. step name expr _ _ _ _ (exprs n.next) (λ e. made e.next (is_set_local n.value e.value))))
+        (either name (eqb tag.value 0x03) _ _ _ _ (after name (number_at w8 bytes tag.next) _ _ (λ n. step name expr _ _ _ _ (exprs n.next) (λ e. made e.next (is_set_variable n.value e.value)))) plains))
 
   -- ---- where so many levels are left
 
   module _ (ranges : Ranges) where
     stmt_is : (left : ℕ) (bytes : List ℕ) (place : ℕ) → naming (stmt_named d) (stmt_at left ranges bytes place) ≡ named_stmt_at d left ranges bytes place
     unfolding stmt_at named_stmt_at
-    stmt_is zero bytes place = after name (number_at w8 bytes place) (λ tag. refl)
+    stmt_is zero bytes place = after name (number_at w8 bytes place) _ _ (λ tag. refl)
     stmt_is (suc left) bytes place =
-        after name (number_at w8 bytes place) (λ tag. forms ranges left (statements_at (stmt_at left ranges)) (named_statements_at (named_stmt_at d left ranges)) (blocks (stmt_at left ranges) (named_stmt_at d left ranges) (stmt_is left)) bytes place tag)
+        after name (number_at w8 bytes place) _ _ (λ tag. forms ranges left (statements_at (stmt_at left ranges)) (named_statements_at (named_stmt_at d left ranges)) (blocks (stmt_at left ranges) (named_stmt_at d left ranges) (stmt_is left)) bytes place tag)
 
     pub block_is : (left : ℕ) (bytes : List ℕ) (place : ℕ) → naming (block_named d) (block_at left ranges bytes place) ≡ named_statements_at (named_stmt_at d left ranges) bytes place
     unfolding block_at
