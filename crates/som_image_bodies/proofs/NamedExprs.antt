@@ -1,5 +1,5 @@
 -- Reading an expression, and naming it, is reading it with names.
-use Rattle.std.proofs.Common.{◌≡◌, ℕ, ℤ, zero, suc, Bool, true, false, eqb, List, map, Result, refl, sym, ap, ◌∙◌}
+use Rattle.std.proofs.Common.{◌≡◌, ℕ, ℤ, zero, suc, Bool, true, eqb, List, map, refl, sym, ap, ◌∙◌}
 use Rattle.std.specs.Prelude.{nat_lt, ◌||◌}
 use Rattle.std.specs.Int.{w8, w16}
 use Rattle.som_model.specs.declared.limits.TheConstants.{MAX_PARAMETERS}
@@ -16,8 +16,8 @@ use Rattle.som_image_fields.specs.declared.syntax.WireExpr.TheOpen.{WireExpr-F}
 use Rattle.som_image_fields.specs.declared.syntax.WireExpr.TheVariants as wires
 use Rattle.som_image_decode.specs.declared.directory.Directory.{Directory}
 use Rattle.som_image_decode.specs.NamedBlocks.{expr_named, expr_named_step}
-use Rattle.som_wire.specs.Making.{Reads, of_one, of_two, of_three, of_four}
-use Rattle.som_wire.specs.Reading.{operator_at, signed_at, truth_at, host_at, args_at, parent_call_after, named_call_after, call_after, pair_after, class_form_after, operation_after, expr_after, is_call_tag, is_expr_tag, expr_at, call_at}
+use Rattle.som_wire.specs.Making.{Reads}
+use Rattle.som_wire.specs.Reading.{operator_at, signed_at, truth_at, host_at, args_at, parent_call_after, named_call_after, call_after, pair_after, class_form_after, operation_after, expr_after, expr_at, call_at}
 use Rattle.som_image_bodies.specs.Naming.{naming}
 use Rattle.som_image_bodies.specs.NamedReading.{new_of, class_of, cast_of, isa_of, proxy_of, offset_call_of, lookup_of, dispatch_of, parent_call_of, parents_call_of, named_args_at, named_parent_call_after, named_lookup_after, named_call_after as calls_after, named_pair_after, named_class_form_after, named_operation_after, named_expr_after, named_expr_at, named_call_at}
 use Rattle.som_image_bodies.proofs.Naming.{after, step, either, made, many_named}
@@ -27,7 +27,6 @@ module _ (d : Directory) where
   name e = expr_named d e
 
   -- ---- what each form stands for
-
 
   is_long : (z : ℤ) → name (wires.Long z) ≡ exprs.Long z
   is_long z = ap name (sym (wires.rolls-Long z)) ∙ fold-roll-WireExpr Expr (expr_named_step d) (WireExpr-F.Long z)

@@ -8,7 +8,6 @@ use Rattle.som_model.specs.declared.syntax.Block.{Block}
 use Rattle.som_image_fields.specs.declared.read.Read.{Read}
 use Rattle.som_image_fields.specs.declared.kind.WireType.{WireType}
 use Rattle.som_image_fields.specs.declared.method.Ranges.{Ranges}
-use Rattle.som_image_fields.specs.Fields.{many_at}
 use Rattle.som_image_fields.specs.Reading.{number_at, kind_at}
 use Rattle.som_image_fields.specs.declared.syntax.WireExpr.{WireExpr}
 use Rattle.som_image_fields.specs.declared.syntax.WireStmt.{WireStmt, roll-WireStmt, map-WireStmt, fold-roll-WireStmt}

@@ -1,5 +1,5 @@
 -- What was read in steps, as what it stands for, is read in steps too.
-use Rattle.std.proofs.Common.{◌≡◌, ℕ, zero, suc, Bool, true, false, cond, List, [], ◌∷◌, map, Result, Ok, Err, refl, ap, ◌∙◌}
+use Rattle.std.proofs.Common.{◌≡◌, ℕ, zero, suc, Bool, true, false, cond, map, Result, Ok, Err, refl, ap, ◌∙◌}
 use Rattle.som_model.specs.Steps.{◌>>=◌}
 use Rattle.som_image_fields.specs.declared.fault.ImageFault.{ImageFault}
 use Rattle.som_image_fields.specs.declared.read.Read.{Read}

@@ -33,5 +33,12 @@ pub fn read_block(
     ensures exact { Gives result (naming (block_named directory.now) (block_at (levels_left level) ranges.now bytes.now place)) }
     ensures next { IfOk result (λ r. r.next ≤ length bytes.now) }
 {
-    read_statements(alloc, bytes, place, directory, ranges, MAX_NESTING as u8 + 1 - level)
+    read_statements(
+        alloc,
+        bytes,
+        place,
+        directory,
+        ranges,
+        MAX_NESTING as u8 + 1 - level,
+    )
 }

@@ -100,11 +100,13 @@ fn read_tagged_expr(
         }
         0x29 => {
             let class = read_class(bytes, next, ranges.classes)?;
-            (Expr::New(key_of(alloc, &directory.keys, class.value)?), class.next)
+            let key = key_of(alloc, &directory.keys, class.value)?;
+            (Expr::New(key), class.next)
         }
         0x2a => {
             let class = read_class(bytes, next, ranges.classes)?;
-            (Expr::Class(key_of(alloc, &directory.keys, class.value)?), class.next)
+            let key = key_of(alloc, &directory.keys, class.value)?;
+            (Expr::Class(key), class.next)
         }
         0x2b => (Expr::Manager, next),
         _ => return read_operation(alloc, bytes, directory, ranges, left, tag, place),
@@ -166,10 +168,10 @@ fn read_class_form(
         0x2c => {
             let class = read_class(bytes, tag.next, ranges.classes)?;
             let of = read_operand(alloc, bytes, class.next, directory, ranges, left)?;
-            let named = key_of(alloc, &directory.keys, class.value)?;
+            let key = key_of(alloc, &directory.keys, class.value)?;
             Ok(Read {
                 value: Expr::Cast {
-                    class: named,
+                    class: key,
                     of: of.value,
                 },
                 next: of.next,
@@ -178,10 +180,10 @@ fn read_class_form(
         0x2d => {
             let class = read_class(bytes, tag.next, ranges.classes)?;
             let of = read_operand(alloc, bytes, class.next, directory, ranges, left)?;
-            let named = key_of(alloc, &directory.keys, class.value)?;
+            let key = key_of(alloc, &directory.keys, class.value)?;
             Ok(Read {
                 value: Expr::Isa {
-                    class: named,
+                    class: key,
                     of: of.value,
                 },
                 next: of.next,
@@ -190,10 +192,10 @@ fn read_class_form(
         0x2e => {
             let class = read_class(bytes, tag.next, ranges.classes)?;
             let of = read_operand(alloc, bytes, class.next, directory, ranges, left)?;
-            let named = key_of(alloc, &directory.keys, class.value)?;
+            let key = key_of(alloc, &directory.keys, class.value)?;
             Ok(Read {
                 value: Expr::Proxy {
-                    class: named,
+                    class: key,
                     of: of.value,
                 },
                 next: of.next,

@@ -98,13 +98,13 @@ pub(crate) fn read_tagged_call(
                 next: args.next,
             })
         }
-        _ => read_named_call(alloc, bytes, directory, ranges, left, tag, place),
+        _ => read_lookup(alloc, bytes, directory, ranges, left, tag, place),
     }
 }
 
 // What follows the tag of a call by name at a place, or of a parent's method.
 #[cycle(expressions)]
-fn read_named_call(
+fn read_lookup(
     alloc: Global,
     bytes: &List<u8>,
     directory: &Directory,

@@ -18,8 +18,8 @@ decreases-pair::read_pair l = 16 * l.left + 6
 abbrev pub decreases-pair::read_tagged_call : goal.decreases-pair::read_tagged_call
 decreases-pair::read_tagged_call l = 16 * l.left + 5
 
-abbrev pub decreases-pair::read_named_call : goal.decreases-pair::read_named_call
-decreases-pair::read_named_call l = 16 * l.left + 4
+abbrev pub decreases-pair::read_lookup : goal.decreases-pair::read_lookup
+decreases-pair::read_lookup l = 16 * l.left + 4
 
 abbrev pub decreases-pair::read_parent_call : goal.decreases-pair::read_parent_call
 decreases-pair::read_parent_call l = 16 * l.left + 3
