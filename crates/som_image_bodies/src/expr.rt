@@ -12,9 +12,10 @@ ghost use Rattle.som_image_decode.specs.Naming.{ranges_in};
 ghost use Rattle.som_image_fields.specs.Fields.{Gives};
 ghost use Rattle.std.specs.Prelude.{◌≡◌, ◌≤◌, length, IfOk};
 
+use crate::named::name_class;
 use crate::operand::{read_class, read_operator, read_signed, read_truth};
 use crate::pair::read_pair;
-use som_image_decode::{Directory, key_of};
+use som_image_decode::Directory;
 use som_image_fields::{ImageFault, Ranges, Read, read_many, read_text, read_u8, read_u16};
 use som_model::{Boxed, Expr, List, MAX_PARAMETERS};
 use std::alloc::Global;
@@ -100,12 +101,12 @@ fn read_tagged_expr(
         }
         0x29 => {
             let class = read_class(bytes, next, ranges.classes)?;
-            let key = key_of(alloc, &directory.keys, class.value)?;
+            let key = name_class(alloc, directory, class.value)?;
             (Expr::New(key), class.next)
         }
         0x2a => {
             let class = read_class(bytes, next, ranges.classes)?;
-            let key = key_of(alloc, &directory.keys, class.value)?;
+            let key = name_class(alloc, directory, class.value)?;
             (Expr::Class(key), class.next)
         }
         0x2b => (Expr::Manager, next),
@@ -168,7 +169,7 @@ fn read_class_form(
         0x2c => {
             let class = read_class(bytes, tag.next, ranges.classes)?;
             let of = read_operand(alloc, bytes, class.next, directory, ranges, left)?;
-            let key = key_of(alloc, &directory.keys, class.value)?;
+            let key = name_class(alloc, directory, class.value)?;
             Ok(Read {
                 value: Expr::Cast {
                     class: key,
@@ -180,7 +181,7 @@ fn read_class_form(
         0x2d => {
             let class = read_class(bytes, tag.next, ranges.classes)?;
             let of = read_operand(alloc, bytes, class.next, directory, ranges, left)?;
-            let key = key_of(alloc, &directory.keys, class.value)?;
+            let key = name_class(alloc, directory, class.value)?;
             Ok(Read {
                 value: Expr::Isa {
                     class: key,
@@ -192,7 +193,7 @@ fn read_class_form(
         0x2e => {
             let class = read_class(bytes, tag.next, ranges.classes)?;
             let of = read_operand(alloc, bytes, class.next, directory, ranges, left)?;
-            let key = key_of(alloc, &directory.keys, class.value)?;
+            let key = name_class(alloc, directory, class.value)?;
             Ok(Read {
                 value: Expr::Proxy {
                     class: key,

@@ -7,6 +7,7 @@
 mod block;
 mod call;
 mod expr;
+mod named;
 mod operand;
 mod pair;
 mod stmt;

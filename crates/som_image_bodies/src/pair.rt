@@ -12,10 +12,11 @@ ghost use Rattle.som_image_fields.specs.Fields.{Gives};
 ghost use Rattle.std.specs.Prelude.{◌≡◌, ◌≤◌, length, IfOk};
 
 use crate::expr::{read_args, read_operand};
+use crate::named::{name_method, name_type};
 use crate::operand::{read_host, read_operator};
-use som_image_decode::{Directory, name_kind};
+use som_image_decode::Directory;
 use som_image_fields::{ImageFault, Ranges, Read, read_method, read_text, read_type, read_u8};
-use som_model::{Expr, List};
+use som_model::{Boxed, Expr, List};
 use std::alloc::Global;
 
 // What follows the tag of two operands at a place, or of a call.
@@ -88,7 +89,7 @@ pub(crate) fn read_tagged_call(
             let method = read_method(bytes, tag.next, ranges)?;
             let receiver = read_operand(alloc, bytes, method.next, directory, ranges, left)?;
             let args = read_args(alloc, bytes, receiver.next, directory, ranges, left)?;
-            let named = directory.method(alloc, method.value)?;
+            let named = name_method(alloc, directory, method.value)?;
             Ok(Read {
                 value: Expr::OffsetCall {
                     method: named,
@@ -125,11 +126,12 @@ fn read_lookup(
             let name = read_text(alloc, bytes, kind.next)?;
             let receiver = read_operand(alloc, bytes, name.next, directory, ranges, left)?;
             let args = read_args(alloc, bytes, receiver.next, directory, ranges, left)?;
-            let result = name_kind(alloc, &directory.keys, &kind.value)?;
+            let named = Boxed::new(alloc, name.value)?;
+            let result = name_type(alloc, directory, &kind.value)?;
             Ok(Read {
                 value: Expr::Lookup {
                     result,
-                    name: name.value,
+                    name: named,
                     receiver: receiver.value,
                     args: args.value,
                 },
@@ -141,11 +143,12 @@ fn read_lookup(
             let name = read_text(alloc, bytes, kind.next)?;
             let receiver = read_operand(alloc, bytes, name.next, directory, ranges, left)?;
             let args = read_args(alloc, bytes, receiver.next, directory, ranges, left)?;
-            let result = name_kind(alloc, &directory.keys, &kind.value)?;
+            let named = Boxed::new(alloc, name.value)?;
+            let result = name_type(alloc, directory, &kind.value)?;
             Ok(Read {
                 value: Expr::Dispatch {
                     result,
-                    name: name.value,
+                    name: named,
                     receiver: receiver.value,
                     args: args.value,
                 },
@@ -178,7 +181,7 @@ fn read_parent_call(
             let parent = read_u8(bytes, tag.next)?;
             let method = read_method(bytes, parent.next, ranges)?;
             let args = read_args(alloc, bytes, method.next, directory, ranges, left)?;
-            let named = directory.method(alloc, method.value)?;
+            let named = name_method(alloc, directory, method.value)?;
             Ok(Read {
                 value: Expr::ParentCall {
                     parent: parent.value,
@@ -191,7 +194,7 @@ fn read_parent_call(
         0x33 => {
             let method = read_method(bytes, tag.next, ranges)?;
             let args = read_args(alloc, bytes, method.next, directory, ranges, left)?;
-            let named = directory.method(alloc, method.value)?;
+            let named = name_method(alloc, directory, method.value)?;
             Ok(Read {
                 value: Expr::ParentsCall {
                     method: named,

@@ -20,12 +20,13 @@ ghost use Rattle.std.specs.Int.{w8, w16};
 ghost use Rattle.std.specs.Prelude.{◌≡◌, ◌≤◌, false, length, IfOk};
 
 use crate::call::read_call;
-use crate::expr::{read_expr, read_operand};
-use som_image_decode::{Directory, name_kind};
+use crate::expr::read_operand;
+use crate::named::name_type;
+use som_image_decode::Directory;
 use som_image_fields::{
     ImageFault, Ranges, Read, read_many, read_type, read_u8, read_u16, read_u32,
 };
-use som_model::{Block, List, Stmt};
+use som_model::{Block, Boxed, List, Stmt};
 use std::alloc::Global;
 
 // A statement where no more level is left.
@@ -109,11 +110,11 @@ fn read_var(
 {
     let kind = read_type(bytes, place, ranges.classes, false)?;
     let value = read_operand(alloc, bytes, kind.next, directory, ranges, left)?;
-    let kind = name_kind(alloc, &directory.keys, &kind.value)?;
+    let kind = name_type(alloc, directory, &kind.value)?;
     Ok(Read {
         value: Stmt::Var {
             kind,
-            value: value.value.into_inner(),
+            value: value.value,
         },
         next: value.next,
     })
@@ -139,7 +140,7 @@ fn read_set_local(
     Ok(Read {
         value: Stmt::SetLocal {
             local: local.value,
-            value: value.value.into_inner(),
+            value: value.value,
         },
         next: value.next,
     })
@@ -165,7 +166,7 @@ fn read_set_variable(
     Ok(Read {
         value: Stmt::SetVariable {
             variable: variable.value,
-            value: value.value.into_inner(),
+            value: value.value,
         },
         next: value.next,
     })
@@ -193,20 +194,22 @@ fn read_plain(
     let (statement, next) = match tag.value {
         0x06 => (Stmt::Return, next),
         0x07 => {
-            let value = read_expr(alloc, bytes, next, directory, ranges, left)?;
+            let value = read_operand(alloc, bytes, next, directory, ranges, left)?;
             (Stmt::ReturnValue { value: value.value }, value.next)
         }
         0x08 => {
-            let value = read_expr(alloc, bytes, next, directory, ranges, left)?;
+            let value = read_operand(alloc, bytes, next, directory, ranges, left)?;
             (Stmt::Print { value: value.value }, value.next)
         }
         0x09 => {
-            let value = read_expr(alloc, bytes, next, directory, ranges, left)?;
+            let value = read_operand(alloc, bytes, next, directory, ranges, left)?;
             (Stmt::Free { value: value.value }, value.next)
         }
         0x0a => {
             let call = read_call(alloc, bytes, next, directory, ranges, left)?;
-            (Stmt::Call { call: call.value }, call.next)
+            let next = call.next;
+            let call = Boxed::new(alloc, call.value)?;
+            (Stmt::Call { call }, next)
         }
         _ => return read_flow(alloc, bytes, directory, ranges, left, tag, place),
     };
@@ -236,11 +239,11 @@ fn read_flow(
     match tag.value {
         0x04 => {
             let condition = read_operand(alloc, bytes, tag.next, directory, ranges, left)?;
-            let then = read_statements(alloc, bytes, condition.next, directory, ranges, left)?;
-            let other = read_statements(alloc, bytes, then.next, directory, ranges, left)?;
+            let then = read_arm(alloc, bytes, condition.next, directory, ranges, left)?;
+            let other = read_arm(alloc, bytes, then.next, directory, ranges, left)?;
             Ok(Read {
                 value: Stmt::If {
-                    condition: condition.value.into_inner(),
+                    condition: condition.value,
                     then: then.value,
                     other: other.value,
                 },
@@ -249,10 +252,10 @@ fn read_flow(
         }
         0x05 => {
             let condition = read_operand(alloc, bytes, tag.next, directory, ranges, left)?;
-            let block = read_statements(alloc, bytes, condition.next, directory, ranges, left)?;
+            let block = read_arm(alloc, bytes, condition.next, directory, ranges, left)?;
             Ok(Read {
                 value: Stmt::While {
-                    condition: condition.value.into_inner(),
+                    condition: condition.value,
                     block: block.value,
                 },
                 next: block.next,
@@ -260,6 +263,29 @@ fn read_flow(
         }
         _ => Err(ImageFault::Tag { offset: place }),
     }
+}
+
+// A block of a statement, behind a pointer.
+#[cycle(statements)]
+fn read_arm(
+    alloc: Global,
+    bytes: &List<u8>,
+    place: usize,
+    directory: &Directory,
+    ranges: &Ranges,
+    left: u8,
+) -> Result<Read<Boxed<Block>>, ImageFault>
+    requires place { place ≤ length bytes.now }
+    requires entries { length ranges.now.entries ≡ ranges.now.classes }
+    requires ranges { ranges.now ≡ ranges_in directory.now }
+    ensures exact { Gives result (named_statements_at (named_stmt_at directory.now left ranges.now) bytes.now place) }
+    ensures next { IfOk result (λ r. r.next ≤ length bytes.now) }
+{
+    let block = read_statements(alloc, bytes, place, directory, ranges, left)?;
+    Ok(Read {
+        value: Boxed::new(alloc, block.value)?,
+        next: block.next,
+    })
 }
 
 /// Reads a block at a place, whose statements stand where so many levels are left.
