@@ -12,7 +12,7 @@ ghost use Rattle.std.specs.Prelude.{◌≡◌, map, Err, IfOk};
 use som_model::{ClassDecl, ClientProgram, Module, NoMemory};
 use som_verify_classes::{Declared, VerifyFault};
 use som_verify_parents::{bare_classes, declare};
-use som_verify_rules::rules_hold;
+use som_verify_rules::{ancestors_where_rules_hold, rules_hold};
 use som_verify_types::program_typed;
 use std::alloc::Global;
 
@@ -45,8 +45,8 @@ fn all_rules_hold(alloc: Global, program: &ClientProgram) -> Result<(), VerifyFa
     let declared = declare_program(alloc, base.as_slice(), program)?;
     let declared = declared.as_slice();
     let number = program.base.classes.as_slice().len();
-    rules_hold(alloc, declared, number)?;
-    program_typed(alloc, declared, number, &program.main)
+    let ancestors = ancestors_where_rules_hold(alloc, declared, number)?;
+    program_typed(alloc, declared, number, ancestors, &program.main)
 }
 
 /// The classes that a client program knows, of which those of its base are given as bare ones.

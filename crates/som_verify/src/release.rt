@@ -9,7 +9,7 @@ ghost use Rattle.std.specs.Prelude.{◌≡◌, Err, IfOk};
 use som_model::{ClassDecl, Module, Release};
 use som_verify_classes::VerifyFault;
 use som_verify_parents::declare;
-use som_verify_rules::rules_hold;
+use som_verify_rules::ancestors_where_rules_hold;
 use som_verify_types::blocks_typed;
 use std::alloc::Global;
 
@@ -27,6 +27,6 @@ fn all_rules_hold(alloc: Global, release: &Release) -> Result<(), VerifyFault>
 {
     let declared = declare(Vec::new(alloc), Module::Library, release.classes.as_slice())?;
     let declared = declared.as_slice();
-    rules_hold(alloc, declared, 0)?;
-    blocks_typed(alloc, declared, 0)
+    let ancestors = ancestors_where_rules_hold(alloc, declared, 0)?;
+    blocks_typed(alloc, declared, 0, ancestors)
 }

@@ -5,3 +5,4 @@ pub mod Inheriting
 pub mod Overriding
 pub mod Selecting
 pub mod Replacing
+mod Passing

@@ -10,7 +10,7 @@ ghost use Rattle.som_verify_classes.specs.Modules.{classes_of};
 ghost use Rattle.som_verify_classes.specs.Places.{IsTable, with_kernel};
 ghost use Rattle.som_verify_classes.specs.Told.{Tells};
 ghost use Rattle.som_verify_classes.specs.Walk.{AreLists};
-ghost use Rattle.std.specs.Prelude.{◌≡◌, ◌≤◌, length, None};
+ghost use Rattle.std.specs.Prelude.{◌≡◌, ◌≤◌, length, IfOk, None};
 
 use crate::introduced::names_introduced_once;
 use crate::members::{entries_differ, variables_differ};
@@ -25,10 +25,16 @@ use som_verify_classes::{Declared, KERNEL_CLASSES, VerifyFault, class_names};
 use som_verify_parents::standing_ancestors;
 use std::alloc::Global;
 
-/// The rules S1 to S10, which look at no body, where the types of the first `base` classes name no class after them.
-pub fn classes_hold(alloc: Global, classes: &[Declared], base: usize) -> Result<(), VerifyFault>
+/// The rules S1 to S10, which look at no body, where the types of the first `base` classes name no class after them. Where
+/// none is broken, it answers the ancestors of the kernel's classes and of these, by places.
+pub fn classes_hold(
+    alloc: Global,
+    classes: &[Declared],
+    base: usize,
+) -> Result<Vec<List<usize>>, VerifyFault>
     requires { base ≤ length classes.now }
-    ensures { Tells (classes_breach base (classes_of classes.now)) result }
+    ensures tells { Tells (classes_breach base (classes_of classes.now)) result }
+    ensures lists { IfOk result (λ lists. AreLists (with_kernel (classes_of classes.now)) lists.items) }
 {
     let table = class_names(alloc, classes)?;
     named_hold(alloc, &table, classes, base)
@@ -40,13 +46,15 @@ fn named_hold(
     table: &IndexSet<&[u8]>,
     classes: &[Declared],
     base: usize,
-) -> Result<(), VerifyFault>
+) -> Result<Vec<List<usize>>, VerifyFault>
     requires table { IsTable (classes_of classes.now) (texts table.now.keys) }
     requires base { base ≤ length classes.now }
-    ensures { Tells (or_else (standing_breach (classes_of classes.now)) (placed_breach base (classes_of classes.now))) result }
+    ensures tells { Tells (or_else (standing_breach (classes_of classes.now)) (placed_breach base (classes_of classes.now))) result }
+    ensures lists { IfOk result (λ lists. AreLists (with_kernel (classes_of classes.now)) lists.items) }
 {
     let lists = standing_ancestors(alloc, table, classes)?;
-    placed_hold(alloc, table, classes, lists.as_slice(), base)
+    placed_hold(alloc, table, classes, lists.as_slice(), base)?;
+    Ok(lists)
 }
 
 // The rules S4 to S10, for classes whose ancestors are known.

@@ -20,5 +20,5 @@ pub use faces::faces_ok;
 pub use introduced::names_introduced_once;
 pub use members::variables_differ;
 pub use moved::entries_moved_up;
-pub use rules::rules_hold;
+pub use rules::{ancestors_where_rules_hold, rules_hold};
 pub use signatures::types_known;

@@ -1,8 +1,7 @@
 -- Bodies one after the other, and the block of each.
-use Rattle.std.proofs.Common.{◌≡◌, ℕ, zero, suc, ◌+◌, ◌-◌, ◌<◌, ◌≤◌, inl, inr, List, [], ◌∷◌, ◌++◌, length, take, drop, get_or, slice_index_or, flat_map, codes, true, Option, Some, None, Result, Ok, Err, refl, sym, ap, ◌∙◌, subst, arith}
+use Rattle.std.proofs.Common.{◌≡◌, ℕ, zero, suc, ◌+◌, ◌-◌, ◌<◌, ◌≤◌, List, [], ◌∷◌, ◌++◌, length, take, drop, get_or, slice_index_or, flat_map, codes, true, Option, Some, None, Result, Ok, Err, refl, sym, ap, ◌∙◌, subst, arith}
 use Rattle.std.proofs.lemmas.List.{at_drop_more}
 use Rattle.som_model.specs.declared.syntax.Block.{Block}
-use Rattle.som_model.specs.declared.key.ValueType.{ValueType}
 use Rattle.som_model.specs.declared.class.Sig.{Sig}
 use Rattle.som_model.specs.declared.class.Override.{Override}
 use Rattle.som_model.specs.declared.class.Way.{Way}
@@ -25,7 +24,7 @@ use Rattle.som_verify_types.specs.Bodies.{AllSigsKnown, SigsKnown, StandsAt, bod
 use Rattle.som_verify_classes.specs.declared.types.Declared.{Declared}
 use Rattle.som_verify_classes.specs.Modules.{class_of, classes_of}
 use Rattle.som_verify_classes.specs.Places.{class_of_place, nobody, with_kernel}
-use Rattle.som_verify_forms.specs.Kinds.{AreTypes, IsType, type_at}
+use Rattle.som_verify_forms.specs.Kinds.{type_at}
 use Rattle.som_verify_forms.specs.Knowing.{all_of, facts_of, sig_is_known}
 use Rattle.som_verify_forms.specs.Scopes.{Ends, blocked_by, scope_at}
 use Rattle.som_verify_classes.specs.Told.{Tells}

@@ -7,6 +7,7 @@ ghost use Rattle.som_verify_classes.specs.Faces.{rules_breach};
 ghost use Rattle.som_verify_classes.specs.Modules.{classes_of};
 ghost use Rattle.som_verify_classes.specs.Places.{with_kernel};
 ghost use Rattle.som_verify_classes.specs.Told.{Tells};
+ghost use Rattle.som_verify_classes.specs.Walk.{AreLists};
 ghost use Rattle.som_verify_classes.specs.declared.types.VerifyFault.TheVariants as faults;
 ghost use Rattle.som_verify_types.specs.Bodies.{AllSigsKnown, AreParts};
 ghost use Rattle.som_verify_forms.specs.Knowing.{IsKnowledge, all_of};
@@ -36,6 +37,20 @@ pub fn parts_of<'a>(alloc: Global, classes: &[Declared<'a>]) -> Result<Parts<'a>
     ensures fault { IfErr result (λ e. e ≡ faults.NoMemory) }
 {
     let lists = declared_ancestors(alloc, classes)?;
+    parts_with(alloc, classes, lists)
+}
+
+// The parts of classes whose ancestors are known.
+fn parts_with<'a>(
+    alloc: Global,
+    classes: &[Declared<'a>],
+    lists: Vec<List<usize>>,
+) -> Result<Parts<'a>, VerifyFault>
+    requires names { first_of_names kernel (classes_of classes.now) ≡ None }
+    requires lists { AreLists (with_kernel (classes_of classes.now)) lists.items }
+    ensures parts { IfOk result (AreParts (classes_of classes.now)) }
+    ensures fault { IfErr result (λ e. e ≡ faults.NoMemory) }
+{
     let kernel = kernel_faces(alloc)?;
     let table = class_names(alloc, classes)?;
     Ok(Parts {
@@ -45,13 +60,20 @@ pub fn parts_of<'a>(alloc: Global, classes: &[Declared<'a>]) -> Result<Parts<'a>
     })
 }
 
-/// The blocks of the classes after the first `base` are well typed, where no rule is broken that looks into no block.
-pub fn blocks_typed(alloc: Global, classes: &[Declared], base: usize) -> Result<(), VerifyFault>
+/// The blocks of the classes after the first `base` are well typed, where no rule is broken that looks into no block. The
+/// lists are the ancestors of the kernel's classes and of these, by places.
+pub fn blocks_typed(
+    alloc: Global,
+    classes: &[Declared],
+    base: usize,
+    lists: Vec<List<usize>>,
+) -> Result<(), VerifyFault>
     requires base { base ≤ length classes.now }
     requires rules { rules_breach base (classes_of classes.now) ≡ None }
+    requires lists { AreLists (with_kernel (classes_of classes.now)) lists.items }
     ensures { Tells (first (flat_map (typed_class (with_kernel (classes_of classes.now))) (classes_of (drop base classes.now)))) result }
 {
-    let parts = parts_of(alloc, classes)?;
+    let parts = parts_with(alloc, classes, lists)?;
     classes_typed(alloc, &parts, classes, base)
 }
 
@@ -75,19 +97,21 @@ fn classes_typed(
 }
 
 /// The blocks of the classes after the first `base`, and then main, are well typed, where no rule is broken that looks into
-/// no block.
+/// no block. The lists are as in `blocks_typed`.
 pub fn program_typed(
     alloc: Global,
     classes: &[Declared],
     base: usize,
+    lists: Vec<List<usize>>,
     main: &Block,
 ) -> Result<(), VerifyFault>
     requires base { base ≤ length classes.now }
     requires rules { rules_breach base (classes_of classes.now) ≡ None }
+    requires lists { AreLists (with_kernel (classes_of classes.now)) lists.items }
     ensures { Tells (first (flat_map (typed_class (with_kernel (classes_of classes.now))) (classes_of (drop base classes.now))
         ++ typed_main (with_kernel (classes_of classes.now)) main.now)) result }
 {
-    let parts = parts_of(alloc, classes)?;
+    let parts = parts_with(alloc, classes, lists)?;
     classes_and_main_typed(alloc, &parts, classes, base, main)
 }
 

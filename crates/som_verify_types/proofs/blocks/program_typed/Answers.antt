@@ -8,8 +8,8 @@ use Rattle.som_verify_classes.proofs.Unbroken.{wants_memory}
 use Rattle.som_verify_types.proofs.Grounds.{names_none}
 use Rattle.som_verify_types.proofs.blocks.program_typed.Goals as goal
 
-pub parts_of-requires : goal.parts_of-requires
-parts_of-requires c = names_none (classes_of c.args.classes.now) c.args.base c.requires.rules
+pub parts_with-requires-clause-names : goal.parts_with-requires-clause-names
+parts_with-requires-clause-names c = names_none (classes_of c.args.classes.now) c.args.base c.requires.rules
 
 pub returns-in_err-parts : goal.returns-in_err-parts
 returns-in_err-parts c =
