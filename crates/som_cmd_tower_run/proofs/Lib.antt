@@ -10,3 +10,4 @@ pub mod TowerNewestLaws
 mod SameKeys
 mod FirstBreaks
 mod OneLevel
+mod FlatAlone

@@ -1,5 +1,5 @@
 -- With one level a tower is its library with the client, as they are without a tower.
-use Rattle.std.proofs.Common.{◌≡◌, ◌↔◌, ◌++◌, ◌+◌, ℕ, zero, suc, Bool, true, false, if◌then◌else◌, List, [], ◌∷◌, length, map, take, Option, Some, None, refl, sym, ap, ◌∙◌, subst, arith}
+use Rattle.std.proofs.Common.{◌≡◌, ◌↔◌, ◌++◌, ℕ, zero, suc, Bool, true, false, if◌then◌else◌, List, [], ◌∷◌, length, map, take, Option, Some, None, refl, sym, ap, ◌∙◌, subst, arith}
 use Rattle.std.specs.Prelude.{sum}
 use Rattle.std.specs.Option.{option_map}
 use Rattle.std.proofs.lemmas.List.Sums.{sum_by-cons}
@@ -20,7 +20,7 @@ use Rattle.som_model.specs.Compatible.{CompatBreach, Compatible, first_break}
 use Rattle.som_model.specs.Conforming.{ReleaseOk}
 use Rattle.som_model.specs.Hierarchy.{Hierarchy}
 use Rattle.som_model.specs.Kernel.{kernel}
-use Rattle.som_model.specs.Lists.{Mem, among}
+use Rattle.som_model.specs.Lists.{among}
 use Rattle.som_model_laws.proofs.Lists.{map_mem}
 use Rattle.som_model_laws.proofs.Members.{map_on}
 use Rattle.som_verify_classes.proofs.FacesOnly.{face_only, introduces_faces}

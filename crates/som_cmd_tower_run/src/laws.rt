@@ -6,10 +6,12 @@ ghost use Rattle.som_cmd_steps.specs.Outcomes.{EndsAs, ShowsSome, StoreFails};
 ghost use Rattle.som_cmd_tower_run.specs.TowerNewest.{HoldsNewestTower, RunsOnNewestTower};
 ghost use Rattle.som_cmd_tower_run.specs.TowerRunAnswer.{IsTowerRunAnswer, tower_means};
 ghost use Rattle.som_cmd_tower_run.specs.TowerRunEnds.{IsTowerUnder, RunsTowerAs, TellsLevelNotKept};
+ghost use Rattle.som_flat_laws.specs.Flat.{flat_interface};
 ghost use Rattle.som_io.specs.Outside.{Rose};
 ghost use Rattle.som_model.specs.Bytes.{Files};
 ghost use Rattle.som_model.specs.Class.{interface_of};
 ghost use Rattle.som_model.specs.Compatible.{CompatBreach, Compatible, first_break};
+ghost use Rattle.som_model.specs.Conforming.{ReleaseOk};
 ghost use Rattle.som_model.specs.declared.program.Release.{Release};
 ghost use Rattle.som_semantics.specs.Means.{means};
 ghost use Rattle.som_semantics.specs.RunText.{no_trace};
@@ -49,11 +51,12 @@ pub fn tower_newest_law()
         RunsOnNewestTower base newest c fuel (FailsGetting (Some files) (client ∷ below)) store_before store_now sink_before sink_now status before after }
 {}
 
-/// With one level a tower is its library with the client, as they are without a tower. The client means what it means as a client of
-/// the library. What is broken first is what the library doesn't keep first of what the client was compiled against, by the same rule
-/// at the same class and member, at level 0; so nothing is broken exactly where the library is compatible with that. And a call that
-/// ends as the answer says prints what `run` prints of the release and the client's program.
+/// With one level a tower is its library with the client, as they are without a tower. Texts are compiled against the interface of the
+/// library. The client means what it means as a client of the library. What is broken first is what the library doesn't keep first of
+/// what the client was compiled against, by the same rule at the same class and member, at level 0; so nothing is broken exactly where
+/// the library is compatible with that. And a call that ends as the answer says prints what `run` prints of the library and the client.
 pub fn one_level_law()
+    ensures flat { (base : Release) → ReleaseOk base → flat_interface (interface_of base ∷ []) ≡ interface_of base }
     ensures means { (base : Release) (c : Level) (fuel : ℕ) → c.client ≡ true → length c.sizes ≡ 1 →
         tower_means base [] c fuel ≡ means base c.program fuel }
     ensures breach { (base : Release) (c : Level) → IsTowerOf base [] c →

@@ -1,5 +1,9 @@
+use Rattle.som_cmd_tower_run.proofs.FlatAlone.{flat_alone}
 use Rattle.som_cmd_tower_run.proofs.OneLevel.{breach_alone, compatible_alone, means_alone, runs_alone, unkept_alone}
 use Rattle.som_cmd_tower_run.proofs.laws.one_level_law.Goals as goal
+
+pub returns-clause-flat : goal.returns-clause-flat
+returns-clause-flat c = flat_alone
 
 pub returns-clause-means : goal.returns-clause-means
 returns-clause-means c = means_alone
