@@ -7,3 +7,7 @@ mod Running
 pub mod TowerRunEndLaws
 mod Unbroken
 pub mod TowerNewestLaws
+mod SameKeys
+mod FirstBreaks
+mod OneLevel
+mod FlatAlone
