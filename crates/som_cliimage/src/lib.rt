@@ -11,7 +11,6 @@ mod client;
 mod directory;
 mod form;
 mod laws;
-mod named;
 mod numbered;
 mod program;
 mod wire;

@@ -8,6 +8,7 @@
 mod class_laws;
 mod faces;
 mod head;
+mod named_class;
 mod named_face;
 mod named_part;
 mod named_selects;
@@ -17,7 +18,8 @@ mod section;
 pub use class_laws::named_faces_are_spelled;
 pub use faces::{KERNEL_CLASSES, ranges_of, read_faces, read_faces_after, with_faces};
 pub use head::{new_image, read_head};
+pub use named_class::name_classes;
 pub use named_face::{name_face, name_interface, name_interface_by};
-pub use named_part::name_classes;
+pub use named_part::NamedPart;
 pub use parts::{read_parts, with_parts};
 pub use section::{read_section, version_with, with_section};
