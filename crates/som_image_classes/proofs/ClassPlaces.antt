@@ -24,7 +24,7 @@ fit_length Fits (x ∷ xs) [] h = absurd h
 
 -- ---- a class more
 
-none_of : (d : Directory) (fs : List WireFace) → classes_of d fs [] ≡ []
+pub none_of : (d : Directory) (fs : List WireFace) → classes_of d fs [] ≡ []
 none_of d [] = refl
 none_of d (f ∷ fs) = refl
 

@@ -1,8 +1,8 @@
 //! The classes of images: heads, faces, parts and selects, which those of libraries and of clients have in common.
 //!
 //! They are read from left to right, each by a step of its own (`specs/ReadClasses.antt`), and written in their one spelling
-//! (`specs/SpelledClasses.antt`). By a `Directory` of `som_image_decode` whole classes are named (`specs/NamedClasses.antt`). The crate
-//! `som_image_encode` goes back.
+//! (`specs/SpelledClasses.antt`). By a `Directory` of `som_image_decode` parts are read with names (`specs/NamedReading.antt`), and
+//! whole classes are named (`specs/NamedClasses.antt`). The crate `som_image_encode` goes back.
 #![tactic(auto)]
 
 mod class_laws;

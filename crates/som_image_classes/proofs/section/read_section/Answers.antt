@@ -16,5 +16,5 @@ known : (ranges : Ranges) (first : ℕ) (bytes : List ℕ) (place : ℕ) (r : Re
 known ranges first bytes place (Ok x) h = selects_known ranges.classes (FitsMethod ranges) first x.value h.1
 known ranges first bytes place (Err fault) h = tt
 
-pub returns-then-version-clause-known : goal.returns-then-version-clause-known
-returns-then-version-clause-known c = known c.args.ranges.now c.args.first c.args.bytes.now c.args.place c.read_selects.result c.read_selects.ensures.found
+pub returns-then-version-eq-SELECTS_VERSION-clause-known : goal.returns-then-version-eq-SELECTS_VERSION-clause-known
+returns-then-version-eq-SELECTS_VERSION-clause-known c = known c.args.ranges.now c.args.first c.args.bytes.now c.args.place c.read_selects.result c.read_selects.ensures.found
