@@ -24,15 +24,16 @@ use Rattle.som_image_bodies.specs.Naming.{naming}
 use Rattle.som_image_classes.specs.ReadClasses.{introduced_count, parts_at}
 use Rattle.som_image_classes.specs.NamedClasses.{variable_named, body_named, override_named, part_named, class_named, classes_named, classes_of}
 use Rattle.som_image_classes.specs.NamedReading.{named_block_at, named_variable_at, named_body_after, named_body_at, named_override_at, named_variables_at, named_bodies_at, named_overrides_at, named_part_at, named_parts_at}
-use Rattle.som_image_classes.proofs.NamedSteps.{plain_step, named_step, named_test, many_named, counted_named, each_named}
+use Rattle.som_image_bodies.proofs.Naming.{after, either, many_named, step}
+use Rattle.som_image_classes.proofs.NamedSteps.{counted_named, each_named}
 
 variable_is : (ks : List ClassKey) (classes : ℕ) (bytes : List ℕ) (place : ℕ) → naming (variable_named ks) (variable_at classes bytes place) ≡ named_variable_at ks classes bytes place
 unfolding variable_at named_variable_at
 variable_is ks classes bytes place =
-    plain_step (variable_named ks) (text_at bytes place)
+    after (variable_named ks) (text_at bytes place)
     (λ a. kind_at classes false bytes a.next >>= λ b. done (record { name = a.value; kind = b.value }) b.next)
     (λ a. kind_at classes false bytes a.next >>= λ b. done (record { name = a.value; kind = kind_named ks b.value }) b.next)
-    (λ a. plain_step (variable_named ks) (kind_at classes false bytes a.next)
+    (λ a. after (variable_named ks) (kind_at classes false bytes a.next)
     (λ b. done (record { name = a.value; kind = b.value }) b.next)
     (λ b. done (record { name = a.value; kind = kind_named ks b.value }) b.next)
     (λ b. refl))
@@ -40,33 +41,33 @@ variable_is ks classes bytes place =
 module _ (d : Directory) (ranges : Ranges) (bytes : List ℕ) where
   user_is : (place : ℕ) → naming (body_named d) (of_one (block_at (levels_left 1) ranges) bodies.User bytes place) ≡ of_one (named_block_at d ranges) named_bodies.User bytes place
   user_is place =
-      named_step (block_named d) (body_named d) (block_at (levels_left 1) ranges bytes place) (named_block_at d ranges bytes place)
+      step (body_named d) (block_named d) (block_at (levels_left 1) ranges bytes place) (named_block_at d ranges bytes place)
       (λ a. done (bodies.User a.value) a.next) (λ a. done (named_bodies.User a.value) a.next) refl (λ a. refl)
 
   get_is : (place : ℕ) → naming (body_named d) (of_one (number_at w8) bodies.Get bytes place) ≡ of_one (number_at w8) named_bodies.Get bytes place
-  get_is place = plain_step (body_named d) (number_at w8 bytes place) (λ a. done (bodies.Get a.value) a.next) (λ a. done (named_bodies.Get a.value) a.next) (λ a. refl)
+  get_is place = after (body_named d) (number_at w8 bytes place) (λ a. done (bodies.Get a.value) a.next) (λ a. done (named_bodies.Get a.value) a.next) (λ a. refl)
 
   set_is : (place : ℕ) → naming (body_named d) (of_one (number_at w8) bodies.Set bytes place) ≡ of_one (number_at w8) named_bodies.Set bytes place
-  set_is place = plain_step (body_named d) (number_at w8 bytes place) (λ a. done (bodies.Set a.value) a.next) (λ a. done (named_bodies.Set a.value) a.next) (λ a. refl)
+  set_is place = after (body_named d) (number_at w8 bytes place) (λ a. done (bodies.Set a.value) a.next) (λ a. done (named_bodies.Set a.value) a.next) (λ a. refl)
 
   after_is : (place : ℕ) (tag : Read ℕ) → naming (body_named d) (body_after (block_at (levels_left 1) ranges) bytes place tag) ≡ named_body_after (named_block_at d ranges) bytes place tag
   after_is place tag =
-      named_test (body_named d) (eqb tag.value 0) _ _ _ _ (user_is tag.next)
-      (named_test (body_named d) (eqb tag.value 1) _ _ _ _ (get_is tag.next)
-      (named_test (body_named d) (eqb tag.value 2) _ (Err (faults.Tag place)) _ (Err (faults.Tag place)) (set_is tag.next) refl))
+      either (body_named d) (eqb tag.value 0) _ _ _ _ (user_is tag.next)
+      (either (body_named d) (eqb tag.value 1) _ _ _ _ (get_is tag.next)
+      (either (body_named d) (eqb tag.value 2) _ (Err (faults.Tag place)) _ (Err (faults.Tag place)) (set_is tag.next) refl))
 
   body_is : (place : ℕ) → naming (body_named d) (body_at ranges bytes place) ≡ named_body_at d ranges bytes place
   unfolding body_at named_body_at
   body_is place =
-      plain_step (body_named d) (number_at w8 bytes place) (body_after (block_at (levels_left 1) ranges) bytes place) (named_body_after (named_block_at d ranges) bytes place) (after_is place)
+      after (body_named d) (number_at w8 bytes place) (body_after (block_at (levels_left 1) ranges) bytes place) (named_body_after (named_block_at d ranges) bytes place) (after_is place)
 
   override_is : (place : ℕ) → naming (override_named d) (override_at ranges bytes place) ≡ named_override_at d ranges bytes place
   unfolding override_at named_override_at
   override_is place =
-      plain_step (override_named d) (method_at ranges bytes place)
+      after (override_named d) (method_at ranges bytes place)
       (λ a. block_at (levels_left 1) ranges bytes a.next >>= λ b. done (record { method = a.value; block = b.value }) b.next)
       (λ a. named_block_at d ranges bytes a.next >>= λ b. done (record { method = method_named d a.value; block = b.value }) b.next)
-      (λ a. named_step (block_named d) (override_named d) (block_at (levels_left 1) ranges bytes a.next) (named_block_at d ranges bytes a.next)
+      (λ a. step (override_named d) (block_named d) (block_at (levels_left 1) ranges bytes a.next) (named_block_at d ranges bytes a.next)
       (λ b. done (record { method = a.value; block = b.value }) b.next)
       (λ b. done (record { method = method_named d a.value; block = b.value }) b.next)
       refl (λ b. refl))
@@ -83,15 +84,15 @@ module _ (d : Directory) (ranges : Ranges) (bytes : List ℕ) where
   pub part_is : (introduced place : ℕ) → naming (part_named d) (part_at ranges introduced bytes place) ≡ named_part_at d ranges introduced bytes place
   unfolding part_at named_part_at
   part_is introduced place =
-      named_step (map (variable_named d.keys)) (part_named d) (variables_at ranges.classes bytes place) (named_variables_at d.keys ranges.classes bytes place)
+      step (part_named d) (map (variable_named d.keys)) (variables_at ranges.classes bytes place) (named_variables_at d.keys ranges.classes bytes place)
       (λ a. bodies_at ranges introduced bytes a.next >>= λ b. overrides_at ranges bytes b.next >>= λ c. done (record { variables = a.value; bodies = b.value; overrides = c.value }) c.next)
       (λ a. named_bodies_at d ranges introduced bytes a.next >>= λ b. named_overrides_at d ranges bytes b.next >>= λ c. done (record { variables = a.value; bodies = b.value; overrides = c.value }) c.next)
       (variables_is place)
-      (λ a. named_step (map (body_named d)) (part_named d) (bodies_at ranges introduced bytes a.next) (named_bodies_at d ranges introduced bytes a.next)
+      (λ a. step (part_named d) (map (body_named d)) (bodies_at ranges introduced bytes a.next) (named_bodies_at d ranges introduced bytes a.next)
       (λ b. overrides_at ranges bytes b.next >>= λ c. done (record { variables = a.value; bodies = b.value; overrides = c.value }) c.next)
       (λ b. named_overrides_at d ranges bytes b.next >>= λ c. done (record { variables = map (variable_named d.keys) a.value; bodies = b.value; overrides = c.value }) c.next)
       (bodies_is introduced a.next)
-      (λ b. named_step (map (override_named d)) (part_named d) (overrides_at ranges bytes b.next) (named_overrides_at d ranges bytes b.next)
+      (λ b. step (part_named d) (map (override_named d)) (overrides_at ranges bytes b.next) (named_overrides_at d ranges bytes b.next)
       (λ c. done (record { variables = a.value; bodies = b.value; overrides = c.value }) c.next)
       (λ c. done (record { variables = map (variable_named d.keys) a.value; bodies = map (body_named d) b.value; overrides = c.value }) c.next)
       (overrides_is b.next) (λ c. refl)))

@@ -1,5 +1,5 @@
 -- Reading with names is reading with numbers, of which each is named: step by step.
-use Rattle.std.proofs.Common.{◌≡◌, ℕ, zero, suc, Bool, true, false, cond, List, [], ◌∷◌, length, map, Result, Ok, Err, refl, ap, ◌∙◌}
+use Rattle.std.proofs.Common.{◌≡◌, ℕ, suc, Bool, true, false, cond, List, [], ◌∷◌, length, map, Result, Ok, Err, refl, ap}
 use Rattle.std.specs.Prelude.{nat_lt, ◌||◌}
 use Rattle.som_model.specs.Steps.{◌>>=◌}
 use Rattle.som_image_fields.specs.declared.fault.ImageFault.{ImageFault}
@@ -8,50 +8,21 @@ use Rattle.som_image_fields.specs.declared.read.Read.{Read}
 use Rattle.som_image_fields.specs.Fields.{done, many_at, counted_at}
 use Rattle.som_image_fields.proofs.Parts.{bind_ok}
 use Rattle.som_image_bodies.specs.Naming.{naming}
+use Rattle.som_image_bodies.proofs.Naming.{after, either, many_named, step}
 use Rattle.som_image_classes.specs.ReadClasses.{each_at}
 
-abbrev pub Came : Type 0 → Type 0
+abbrev Came : Type 0 → Type 0
 Came A = Result (Read A) ImageFault
-
--- ---- a step whose value stays, and one whose value is named
-
-pub plain_step : {A T U : Type 0} (n : T → U) (r : Result A ImageFault) (f : A → Came T) (g : A → Came U) → ((a : A) → naming n (f a) ≡ g a) → naming n (r >>= f) ≡ (r >>= g)
-plain_step n (Ok a) f g h = h a
-plain_step n (Err fault) f g h = refl
-
-naming_step : {A B T U : Type 0} (p : A → B) (n : T → U) (r : Came A) (f : Read A → Came T) (g : Read B → Came U) → ((a : Read A) → naming n (f a) ≡ g (record { value = p a.value; next = a.next })) → naming n (r >>= f) ≡ (naming p r >>= g)
-naming_step p n (Ok a) f g h = h a
-naming_step p n (Err fault) f g h = refl
-
-pub named_step : {A B T U : Type 0} (p : A → B) (n : T → U) (r : Came A) (s : Came B) (f : Read A → Came T) (g : Read B → Came U) → naming p r ≡ s → ((a : Read A) → naming n (f a) ≡ g (record { value = p a.value; next = a.next })) → naming n (r >>= f) ≡ (s >>= g)
-named_step {A} {B} p n r s f g e h = naming_step p n r f g h ∙ ap (λ (x : Came B). x >>= g) e
-
-pub named_test : {T U : Type 0} (n : T → U) (b : Bool) (x y : Came T) (u v : Came U) → naming n x ≡ u → naming n y ≡ v → naming n (cond b x y) ≡ cond b u v
-named_test n true x y u v e h = e
-named_test n false x y u v e h = h
 
 -- ---- so many
 
 module _ {A B : Type 0} (n : A → B) (one : ℕ → Came A) (other : ℕ → Came B) (same : (p : ℕ) → naming n (one p) ≡ other p) where
-  pub many_named : (count place : ℕ) → naming (map n) (many_at one count place) ≡ many_at other count place
-  unfolding many_at
-  many_named zero place = refl
-  many_named (suc k) place =
-      named_step n (map n) (one place) (other place)
-      (λ first. many_at one k first.next >>= λ others. done (first.value ∷ others.value) others.next)
-      (λ first. many_at other k first.next >>= λ others. done (first.value ∷ others.value) others.next)
-      (same place)
-      (λ a. named_step (map n) (map n) (many_at one k a.next) (many_at other k a.next)
-      (λ others. done (a.value ∷ others.value) others.next)
-      (λ others. done (n a.value ∷ others.value) others.next)
-      (many_named k a.next) (λ b. refl))
-
   pub counted_named : (number : ℕ → Came ℕ) (least most place : ℕ) → naming (map n) (counted_at number least most one place) ≡ counted_at number least most other place
   counted_named number least most place =
-      plain_step (map n) (number place)
+      after (map n) (number place)
       (λ count. cond (nat_lt count.value least || nat_lt most count.value) (Err (faults.Number place)) (many_at one count.value count.next))
       (λ count. cond (nat_lt count.value least || nat_lt most count.value) (Err (faults.Number place)) (many_at other count.value count.next))
-      (λ count. named_test (map n) (nat_lt count.value least || nat_lt most count.value) (Err (faults.Number place)) (many_at one count.value count.next) (Err (faults.Number place)) (many_at other count.value count.next) refl (many_named count.value count.next))
+      (λ count. either (map n) (nat_lt count.value least || nat_lt most count.value) (Err (faults.Number place)) (many_at one count.value count.next) (Err (faults.Number place)) (many_at other count.value count.next) refl (many_named n one other same count.value count.next))
 
 -- ---- one for each
 
@@ -59,11 +30,11 @@ pub each_named : {A B C : Type 0} (n : B → C) (one : A → ℕ → Came B) (ot
 unfolding each_at
 each_named n one other same [] place = refl
 each_named n one other same (x ∷ xs) place =
-    named_step n (map n) (one x place) (other x place)
+    step (map n) n (one x place) (other x place)
     (λ first. each_at one xs first.next >>= λ others. done (first.value ∷ others.value) others.next)
     (λ first. each_at other xs first.next >>= λ others. done (first.value ∷ others.value) others.next)
     (same x place)
-    (λ a. named_step (map n) (map n) (each_at one xs a.next) (each_at other xs a.next)
+    (λ a. step (map n) (map n) (each_at one xs a.next) (each_at other xs a.next)
     (λ others. done (a.value ∷ others.value) others.next)
     (λ others. done (n a.value ∷ others.value) others.next)
     (each_named n one other same xs a.next) (λ b. refl))
