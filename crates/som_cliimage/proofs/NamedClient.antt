@@ -48,10 +48,11 @@ module _ (form : ClientForm) (version : ℕ) (base own : List WireFace) (bytes :
   abbrev main_of : WireBlock → Block
   main_of b = block_named (client_directory base own) b
 
+  abbrev program : List WireSelects → WireBlock → List ClassDecl → ClientProgram
+  program ss b cs = record { base = interface_named base; classes = with_selects (client_directory base own) (length base + 4) ss cs; main = main_of b }
+
   same_program : (ps : List WirePart) (ss : List WireSelects) (b : WireBlock) → program_named (a_program base own ps ss b) ≡ program_of base own (parts_of ps) ss (main_of b)
-  same_program ps ss b =
-      let d = client_directory base own in
-      ap (λ (cs : List ClassDecl). (record { base = interface_named base; classes = with_selects d (length base + 4) ss cs; main = main_of b } : ClientProgram)) (classes_are d own ps)
+  same_program ps ss b = ap (program ss b) (classes_are (client_directory base own) own ps)
 
   ended : (ps : List WirePart) (ss : List WireSelects) (b : WireBlock) (next : ℕ) → finish bytes (record { value = a_program base own ps ss b; next = next }) ≡ at_end bytes (record { value = program_of base own (parts_of ps) ss (main_of b); next = next })
   ended ps ss b next = tested (nat_lt next (length bytes)) (faults.Trailing next) (a_program base own ps ss b) program_named (program_of base own (parts_of ps) ss (main_of b)) (same_program ps ss b)

@@ -36,10 +36,13 @@ finish bytes r = at_end bytes r >>= named
 abbrev names_of : List WireFace → List WirePart → List NamedPart
 names_of fs ps = map (part_named (library_directory fs)) ps
 
+abbrev release : List ClassDecl → Release
+release cs = record { classes = cs }
+
 same_release : (fs : List WireFace) (ps : List WirePart) (ss : List WireSelects) → release_named (a_release fs ps ss) ≡ release_of fs (names_of fs ps) ss
 same_release fs ps ss =
     let d = library_directory fs in
-    ap (λ (cs : List ClassDecl). (record { classes = with_selects d 4 ss cs } : Release)) (classes_are d fs ps)
+    ap (λ (cs : List ClassDecl). release (with_selects d 4 ss cs)) (classes_are d fs ps)
 
 ended : (bytes : List ℕ) (fs : List WireFace) (ps : List WirePart) (ss : List WireSelects) (next : ℕ) → finish bytes (record { value = a_release fs ps ss; next = next }) ≡ at_end bytes (record { value = release_of fs (names_of fs ps) ss; next = next })
 ended bytes fs ps ss next = tested (nat_lt next (length bytes)) (faults.Trailing next) (a_release fs ps ss) release_named (release_of fs (names_of fs ps) ss) (same_release fs ps ss)
