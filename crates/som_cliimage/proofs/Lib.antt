@@ -3,6 +3,7 @@ pub mod ProgramFields
 pub mod NamedPrograms
 pub mod Naming
 pub mod Written
+pub mod NamedClient
 pub mod Decoded
 pub mod NumberedPrograms
 pub mod BaseAncestors

@@ -9,25 +9,11 @@ ghost use Rattle.som_image_fields.specs.Fields.{Gives};
 ghost use Rattle.std.specs.Prelude.{◌≡◌, ◌≤◌, drop, length, Some, Ok, IfOk};
 
 use crate::form::{ANY_FORM, ClientForm};
-use crate::named::name_program;
 use crate::numbered::number_program;
 use crate::program::{read_program, write_program};
 use som_image_fields::{EncodeFault, ImageFault};
 use som_model::{ClientProgram, List};
 use std::alloc::Global;
-
-fn read_and_name(
-    alloc: Global,
-    bytes: &List<u8>,
-    place: usize,
-    form: &ClientForm,
-) -> Result<ClientProgram, ImageFault>
-    requires { place ≤ length bytes.now }
-    ensures { Gives result (client_from form.now bytes.now place) }
-{
-    let wire = read_program(alloc, bytes, place, form)?;
-    Ok(name_program(alloc, &wire)?)
-}
 
 /// Reads a client image: the one program that the bytes spell, and else the first fault. An image in which a name stands twice
 /// is read too, since rules on names are asked of what was read; such a program has no image, or another one.
@@ -40,7 +26,7 @@ pub fn decode(alloc: Global, bytes: &List<u8>) -> Result<ClientProgram, ImageFau
     ensures exact { Gives result (client_at bytes.now) }
 {
     let _all = bytes.as_bytes();
-    read_and_name(alloc, bytes, 0, &ANY_FORM)
+    read_program(alloc, bytes, 0, &ANY_FORM)
 }
 
 /// Reads the client image that stands in bytes from a place to their end, as `decode` reads one that begins at the first byte.
@@ -60,7 +46,7 @@ pub fn decode_from(
     ensures exact { Gives result (client_from form.now bytes.now place) }
 {
     let _all = bytes.as_bytes();
-    read_and_name(alloc, bytes, place, form)
+    read_program(alloc, bytes, place, form)
 }
 
 /// Writes the client image of a program. `decode` reads it back: it answers the program, unless memory runs out.

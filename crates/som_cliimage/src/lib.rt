@@ -1,17 +1,16 @@
 //! Client images: the bytes of a client program, read from left to right and written.
 //!
 //! A client image holds the faces that the client was compiled against, the client's own classes, and main. As for library
-//! images, `decode` reads the bytes as a `WireProgram`, in which classes and methods go by their numbers and slots; then keys
-//! and names take their places (`specs/Reading.antt`, `specs/Naming.antt`). A slot stands for the name at that slot of the
-//! faces in the image. `encode` goes back (`specs/Numbering.antt`, `specs/Spelling.antt`); `specs/Limits.antt` says what an
-//! image has room for.
+//! images, what `decode` answers is said of a `WireProgram`, in which classes and methods go by their numbers and slots
+//! (`specs/Reading.antt`, `specs/Naming.antt`), and the code names each body as it reads it (`specs/NamedReading.antt`). A slot
+//! stands for the name at that slot of the faces in the image. `encode` goes back (`specs/Numbering.antt`,
+//! `specs/Spelling.antt`); `specs/Limits.antt` says what an image has room for.
 #![tactic(auto)]
 
 mod client;
 mod directory;
 mod form;
 mod laws;
-mod named;
 mod numbered;
 mod program;
 mod wire;

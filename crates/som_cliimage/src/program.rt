@@ -1,20 +1,25 @@
 //! Decodes and encodes the sections of a client image: head, base, own classes, selects and main.
 
-ghost use Rattle.som_cliimage.specs.Reading.{client_ranges, image_at, program_at};
+ghost use Rattle.som_cliimage.specs.NamedReading.{named_bodies_at, named_image_at};
+ghost use Rattle.som_cliimage.specs.Programs.{client_from};
+ghost use Rattle.som_cliimage.specs.Reading.{client_ranges};
 ghost use Rattle.som_cliimage.specs.Spelling.{FitsOwnFaces, FitsProgram, client};
 ghost use Rattle.som_image_classes.specs.SpelledClasses.{FitsFaces};
 ghost use Rattle.som_image_fields.specs.Fields.{Gives};
 ghost use Rattle.std.specs.Prelude.{◌≡◌, ◌≤◌, length, IfOk};
 
+use crate::directory::client_directory;
 use crate::form::{ClientForm, test_classes, test_statements};
 use crate::wire::WireProgram;
+use som_image_bodies::read_block;
 use som_image_classes::{
-    KERNEL_CLASSES, new_image, ranges_of, read_faces, read_faces_after, read_head, read_parts,
-    read_section, version_with, with_faces, with_parts, with_section,
+    KERNEL_CLASSES, name_classes, name_interface, new_image, ranges_of, read_faces,
+    read_faces_after, read_head, read_parts, read_section, version_with, with_faces, with_parts,
+    with_section,
 };
-use som_image_fields::{ImageFault, Ranges, Read, WireFace, write_u16};
-use som_model::{List, MAX_CLIENT_CLASSES, NoMemory};
-use som_wire::{read_block, write_block};
+use som_image_fields::{ImageFault, Ranges, WireFace, write_u16};
+use som_model::{ClientProgram, List, MAX_CLIENT_CLASSES, NoMemory};
+use som_wire::write_block;
 use std::alloc::Global;
 
 const MAGIC: &[u8] = b"SOMC";
@@ -42,72 +47,69 @@ fn client_ranges(
     })
 }
 
-#[tactic(auto, unfolding(crate::specs::Reading::program_at))]
-fn read_classes_and_main(
-    alloc: Global,
-    bytes: &List<u8>,
-    place: usize,
-    version: u8,
-    form: &ClientForm,
-) -> Result<Read<WireProgram>, ImageFault>
-    requires { place ≤ length bytes.now }
-    ensures exact { Gives result (program_at form.now version bytes.now place) }
-    ensures next { IfOk result (λ r. r.next ≤ length bytes.now) }
-{
-    test_classes(bytes, place, form.base_classes)?;
-    let base = read_faces(alloc, bytes, place)?;
-    let before = base.value.len() as u16 + KERNEL_CLASSES;
-    let own = read_faces_after(alloc, bytes, base.next, before, MAX_CLIENT_CLASSES)?;
-    let ranges = client_ranges(alloc, &base.value, &own.value)?;
-    let parts = read_parts(alloc, bytes, own.next, &ranges, &own.value)?;
-    let selects = read_section(alloc, bytes, parts.next, version, &ranges, before)?;
-    test_statements(bytes, selects.next, form.statements)?;
-    let main = read_block(alloc, bytes, selects.next, &ranges, 1)?;
-    Ok(Read {
-        value: WireProgram {
-            base: base.value,
-            faces: own.value,
-            parts: parts.value,
-            selects: selects.value,
-            main: main.value,
-        },
-        next: main.next,
-    })
-}
-
-#[tactic(auto, unfolding(crate::specs::Reading::image_at))]
-fn read_to_the_end(
-    alloc: Global,
-    bytes: &List<u8>,
-    place: usize,
-    form: &ClientForm,
-) -> Result<WireProgram, ImageFault>
-    requires { place ≤ length bytes.now }
-    ensures { Gives result (image_at form.now bytes.now place) }
-{
-    let version = read_head(bytes, place, MAGIC, NEWEST_VERSION)?;
-    let program = read_classes_and_main(alloc, bytes, version.next, version.value, form)?;
-    if program.next < bytes.len() {
-        return Err(ImageFault::Trailing {
-            offset: program.next,
-        });
-    }
-    Ok(program.value)
-}
-
-/// Reads the client image that stands in bytes from a place to their end, as it has it.
+/// Reads the client image that stands in bytes from a place to their end, to the program that it stands for.
 pub(crate) fn read_program(
     alloc: Global,
     bytes: &List<u8>,
     place: usize,
     form: &ClientForm,
-) -> Result<WireProgram, ImageFault>
+) -> Result<ClientProgram, ImageFault>
     requires { place ≤ length bytes.now }
-    ensures exact { Gives result (image_at form.now bytes.now place) }
-    ensures fits { IfOk result (λ wire. FitsProgram wire) }
+    ensures { Gives result (client_from form.now bytes.now place) }
 {
-    let _all = bytes.as_bytes();
-    read_to_the_end(alloc, bytes, place, form)
+    read_named(alloc, bytes, place, form)
+}
+
+#[tactic(auto, unfolding(crate::specs::NamedReading::named_image_at))]
+fn read_named(
+    alloc: Global,
+    bytes: &List<u8>,
+    place: usize,
+    form: &ClientForm,
+) -> Result<ClientProgram, ImageFault>
+    requires { place ≤ length bytes.now }
+    ensures { Gives result (named_image_at form.now bytes.now place) }
+{
+    let version = read_head(bytes, place, MAGIC, NEWEST_VERSION)?;
+    test_classes(bytes, version.next, form.base_classes)?;
+    let base = read_faces(alloc, bytes, version.next)?;
+    let before = base.value.len() as u16 + KERNEL_CLASSES;
+    let own = read_faces_after(alloc, bytes, base.next, before, MAX_CLIENT_CLASSES)?;
+    read_bodies(alloc, bytes, own.next, version.value, form, &base.value, &own.value)
+}
+
+// No body is kept with numbers: each is named as it is read.
+#[tactic(auto, unfolding(crate::specs::NamedReading::named_bodies_at))]
+fn read_bodies(
+    alloc: Global,
+    bytes: &List<u8>,
+    place: usize,
+    version: u8,
+    form: &ClientForm,
+    base: &List<WireFace>,
+    own: &List<WireFace>,
+) -> Result<ClientProgram, ImageFault>
+    requires place { place ≤ length bytes.now }
+    requires base { FitsFaces base.now }
+    requires own { FitsOwnFaces base.now own.now }
+    ensures { Gives result (named_bodies_at form.now version base.now own.now bytes.now place) }
+{
+    let before = base.len() as u16 + KERNEL_CLASSES;
+    let ranges = client_ranges(alloc, base, own)?;
+    let directory = client_directory(alloc, base, own)?;
+    let parts = read_parts(alloc, bytes, place, &directory, &ranges, own)?;
+    let selects = read_section(alloc, bytes, parts.next, version, &ranges, before)?;
+    test_statements(bytes, selects.next, form.statements)?;
+    let main = read_block(alloc, bytes, selects.next, &directory, &ranges, 1)?;
+    if main.next < bytes.len() {
+        return Err(ImageFault::Trailing { offset: main.next });
+    }
+    let parts = parts.value;
+    Ok(ClientProgram {
+        base: name_interface(alloc, base)?,
+        classes: name_classes(alloc, &directory, before, own, parts, &selects.value)?,
+        main: main.value,
+    })
 }
 
 /// The client image of a program with numbers.

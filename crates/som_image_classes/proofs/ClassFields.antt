@@ -117,8 +117,11 @@ each_known : (classes : ℕ) (Method : WireMethod → Type 0) (least : ℕ) (cs 
 each_known classes Method least [] fits = tt
 each_known classes Method least (c ∷ cs) fits = (own_known Method classes least c fits.0, each_known classes Method (suc c.class) cs fits.1)
 
-selects_known : (classes : ℕ) (Method : WireMethod → Type 0) (first : ℕ) (cs : List WireSelects) → FitsSelects classes Method first cs → All (λ (c : WireSelects). All (λ (s : WireSelect). Method s.method) c.selects) cs
+pub selects_known : (classes : ℕ) (Method : WireMethod → Type 0) (first : ℕ) (cs : List WireSelects) → FitsSelects classes Method first cs → All (λ (c : WireSelects). All (λ (s : WireSelect). Method s.method) c.selects) cs
 selects_known classes Method first cs fits = All-from_recursion (λ (c : WireSelects). All (λ (s : WireSelect). Method s.method) c.selects) cs (each_known classes Method first cs fits.ascend)
+
+pub none_known : (ranges : Ranges) → AreSelectsOf ranges []
+none_known ranges = All-from_recursion (λ (c : WireSelects). All (λ (s : WireSelect). FitsMethod ranges s.method) c.selects) [] tt
 
 -- ---- the head
 
@@ -238,7 +241,7 @@ module _ (ranges : Ranges) (short : AreShort ranges) (first : ℕ) where
 
   -- its methods are those of classes that there are
   pub section_known : (cs : List WireSelects) → FitsSection ranges first cs → AreSelectsOf ranges cs
-  section_known [] fits = All-from_recursion (λ (c : WireSelects). All (λ (s : WireSelect). FitsMethod ranges s.method) c.selects) [] tt
+  section_known [] fits = none_known ranges
   section_known (c ∷ cs) fits = selects_known ranges.classes (FitsMethod ranges) first (c ∷ cs) fits
 
 -- ---- whole images

@@ -1,4 +1,6 @@
 pub mod EachFields
+pub mod NamedSteps
+pub mod NamedReading
 pub mod ClassPlaces
 pub mod NamedFaces
 pub mod NamedParts

@@ -28,6 +28,7 @@ use Rattle.som_image_fields.specs.declared.syntax.WirePart.{WirePart}
 use Rattle.som_image_decode.specs.declared.directory.Directory.{Directory}
 use Rattle.som_image_decode.specs.Naming.{library_directory, key_at, method_named, kind_named}
 use Rattle.som_image_decode.specs.NamedBlocks.{block_named}
+use Rattle.som_image_classes.specs.declared.named_part.NamedPart.{NamedPart}
 
 -- ---- faces
 
@@ -82,6 +83,26 @@ abbrev pub classes_named : Directory → List WireFace → List WirePart → Lis
 classes_named d (f ∷ fs) (p ∷ ps) = class_named d f p ∷ classes_named d fs ps
 classes_named d [] ps = []
 classes_named d (f ∷ fs) [] = []
+
+-- ---- classes from parts with names
+
+-- the part that one with numbers stands for
+abbrev pub part_named : Directory → WirePart → NamedPart
+part_named d p = record {
+  variables = map (variable_named d.keys) p.variables;
+  bodies = map (body_named d) p.bodies;
+  overrides = map (override_named d) p.overrides;
+}
+
+-- a class of a face and a part with names, without selects
+abbrev pub class_of : Directory → WireFace → NamedPart → ClassDecl
+class_of d f p = record { face = face_named d.keys f; variables = p.variables; bodies = p.bodies; overrides = p.overrides; selects = [] }
+
+-- each face with the part of its place
+abbrev pub classes_of : Directory → List WireFace → List NamedPart → List ClassDecl
+classes_of d (f ∷ fs) (p ∷ ps) = class_of d f p ∷ classes_of d fs ps
+classes_of d [] ps = []
+classes_of d (f ∷ fs) [] = []
 
 -- ---- selects
 

@@ -1,158 +1,242 @@
-//! Turns faces, parts and selects of an image to declared classes.
+//! Reads the part of a class to what it stands for: variables, bodies and overrides with names.
 
-ghost use Rattle.som_image_fields.specs.Fitting.{FitsBody, FitsOverride, FitsVariable};
-ghost use Rattle.som_image_classes.specs.NamedClasses.{
-  AreSelectsOf,
-  body_named,
-  class_named,
-  classes_named,
-  override_named,
-  selecting,
-  variable_named,
-  with_selects,
+ghost use Rattle.som_image_classes.specs.NamedReading.{
+  named_bodies_at,
+  named_body_at,
+  named_override_at,
+  named_overrides_at,
+  named_part_at,
+  named_variable_at,
+  named_variables_at,
 };
-ghost use Rattle.som_image_classes.specs.SpelledClasses.{FitsClass, FitsParts};
 ghost use Rattle.som_image_decode.specs.Naming.{ranges_in};
-ghost use Rattle.som_image_fields.specs.Spelling.{FitsFace, FitsMethod};
-ghost use Rattle.std.specs.Prelude.{◌≡◌, ◌+◌, ◌<◌, ◌^◌, length, map, All, IfOk};
+ghost use Rattle.som_image_fields.specs.Fields.{Gives};
+ghost use Rattle.std.specs.Prelude.{◌≡◌, ◌≤◌, length, IfOk};
 
-use crate::named_face::name_face;
-use crate::named_selects::{name_selects, selects_under};
-use som_image_decode::{Directory, name_block, name_kind};
-use som_image_fields::WireFace;
-use som_model::{Body, ClassDecl, ClassKey, List, NoMemory, Override, Variable};
-use som_wire::{WireBody, WireOverride, WirePart, WireSelect, WireSelects, WireVariable};
+use som_image_bodies::read_block;
+use som_image_decode::{Directory, name_kind};
+use som_image_fields::{
+    ImageFault, Ranges, Read, read_many, read_method, read_text, read_type, read_u8, read_u16,
+};
+use som_model::{Body, ClassKey, List, MAX_OVERRIDES, MAX_VARIABLES, Override, Variable};
 use std::alloc::Global;
 
-#[tactic(auto, using(som_image_decode::proofs::Naming::as_result))]
-fn name_variable(
+/// What the part of a class stands for.
+#[derive(Drop)]
+pub struct NamedPart {
+    pub variables: List<Variable>,
+    pub bodies: List<Body>,
+    pub overrides: List<Override>,
+}
+
+#[tactic(auto, using(som_image_decode::proofs::Naming::as_result), unfolding(crate::specs::NamedReading::named_variable_at))]
+fn read_variable(
     alloc: Global,
+    bytes: &List<u8>,
+    place: usize,
     keys: &List<ClassKey>,
-    variable: &WireVariable,
-) -> Result<Variable, NoMemory>
-    requires { FitsVariable (length keys.now) variable.now }
-    ensures { IfOk result (λ named. named ≡ variable_named keys.now variable.now) }
+    classes: u16,
+) -> Result<Read<Variable>, ImageFault>
+    requires place { place ≤ length bytes.now }
+    requires classes { classes ≡ length keys.now }
+    ensures exact { Gives result (named_variable_at keys.now classes bytes.now place) }
+    ensures next { IfOk result (λ r. r.next ≤ length bytes.now) }
 {
-    Ok(Variable {
-        name: variable.name.copy(alloc)?,
-        kind: name_kind(alloc, keys, &variable.kind)?,
+    let name = read_text(alloc, bytes, place)?;
+    let kind = read_type(bytes, name.next, classes, false)?;
+    Ok(Read {
+        value: Variable {
+            name: name.value,
+            kind: name_kind(alloc, keys, &kind.value)?,
+        },
+        next: kind.next,
     })
 }
 
-fn name_variables(
+#[tactic(auto, unfolding(crate::specs::NamedReading::named_body_at))]
+fn read_body(
     alloc: Global,
+    bytes: &List<u8>,
+    place: usize,
+    directory: &Directory,
+    ranges: &Ranges,
+) -> Result<Read<Body>, ImageFault>
+    requires place { place ≤ length bytes.now }
+    requires entries { length ranges.now.entries ≡ ranges.now.classes }
+    requires ranges { ranges.now ≡ ranges_in directory.now }
+    ensures exact { Gives result (named_body_at directory.now ranges.now bytes.now place) }
+    ensures next { IfOk result (λ r. r.next ≤ length bytes.now) }
+{
+    let tag = read_u8(bytes, place)?;
+    match tag.value {
+        0 => {
+            let block = read_block(alloc, bytes, tag.next, directory, ranges, 1)?;
+            Ok(Read {
+                value: Body::User(block.value),
+                next: block.next,
+            })
+        }
+        1 => {
+            let variable = read_u8(bytes, tag.next)?;
+            Ok(Read {
+                value: Body::Get(variable.value),
+                next: variable.next,
+            })
+        }
+        2 => {
+            let variable = read_u8(bytes, tag.next)?;
+            Ok(Read {
+                value: Body::Set(variable.value),
+                next: variable.next,
+            })
+        }
+        _ => Err(ImageFault::Tag { offset: place }),
+    }
+}
+
+#[tactic(auto, unfolding(crate::specs::NamedReading::named_override_at))]
+fn read_override(
+    alloc: Global,
+    bytes: &List<u8>,
+    place: usize,
+    directory: &Directory,
+    ranges: &Ranges,
+) -> Result<Read<Override>, ImageFault>
+    requires place { place ≤ length bytes.now }
+    requires entries { length ranges.now.entries ≡ ranges.now.classes }
+    requires ranges { ranges.now ≡ ranges_in directory.now }
+    ensures exact { Gives result (named_override_at directory.now ranges.now bytes.now place) }
+    ensures next { IfOk result (λ r. r.next ≤ length bytes.now) }
+{
+    let method = read_method(bytes, place, ranges)?;
+    let block = read_block(alloc, bytes, method.next, directory, ranges, 1)?;
+    Ok(Read {
+        value: Override {
+            method: directory.method(alloc, method.value)?,
+            block: block.value,
+        },
+        next: block.next,
+    })
+}
+
+fn read_variables(
+    alloc: Global,
+    bytes: &List<u8>,
+    place: usize,
     keys: &List<ClassKey>,
-    variables: &List<WireVariable>,
-) -> Result<List<Variable>, NoMemory>
-    requires { All (FitsVariable (length keys.now)) variables.now }
-    ensures { IfOk result (λ named. named ≡ map (variable_named keys.now) variables.now) }
+    classes: u16,
+) -> Result<Read<List<Variable>>, ImageFault>
+    requires place { place ≤ length bytes.now }
+    requires classes { classes ≡ length keys.now }
+    ensures exact { Gives result (named_variables_at keys.now classes bytes.now place) }
+    ensures next { IfOk result (λ r. r.next ≤ length bytes.now) }
 {
-    let mut named = List::new(alloc);
-    for variable in variables.as_slice() {
-        named.push(name_variable(alloc, keys, variable)?)?;
+    let count = read_u8(bytes, place)?;
+    let variables = u32::from(count.value);
+    if variables > MAX_VARIABLES {
+        return Err(ImageFault::Number { offset: place });
     }
-    Ok(named)
+    read_many(
+        alloc,
+        bytes,
+        variables,
+        count.next,
+        |p: usize| -> Result<Read<Variable>, ImageFault>
+            requires place { p ≤ length bytes.now }
+            requires classes { classes ≡ length keys.now }
+            ensures exact { Gives result (named_variable_at keys.entry.now classes bytes.entry.now p) }
+            ensures next { IfOk result (λ r. r.next ≤ length bytes.entry.now) }
+        { read_variable(alloc, bytes, p, keys, classes) },
+    )
 }
 
-fn name_body(alloc: Global, directory: &Directory, body: &WireBody) -> Result<Body, NoMemory>
-    requires { FitsBody (ranges_in directory.now).classes (FitsMethod (ranges_in directory.now)) body.now }
-    ensures { IfOk result (λ named. named ≡ body_named directory.now body.now) }
-{
-    match body {
-        WireBody::User(block) => Ok(Body::User(name_block(alloc, directory, block)?)),
-        WireBody::Get(variable) => Ok(Body::Get(*variable)),
-        WireBody::Set(variable) => Ok(Body::Set(*variable)),
-    }
-}
-
-fn name_bodies(
+fn read_bodies(
     alloc: Global,
+    bytes: &List<u8>,
+    place: usize,
     directory: &Directory,
-    bodies: &List<WireBody>,
-) -> Result<List<Body>, NoMemory>
-    requires { All (FitsBody (ranges_in directory.now).classes (FitsMethod (ranges_in directory.now))) bodies.now }
-    ensures { IfOk result (λ named. named ≡ map (body_named directory.now) bodies.now) }
+    ranges: &Ranges,
+    introduced: u16,
+) -> Result<Read<List<Body>>, ImageFault>
+    requires place { place ≤ length bytes.now }
+    requires entries { length ranges.now.entries ≡ ranges.now.classes }
+    requires ranges { ranges.now ≡ ranges_in directory.now }
+    ensures exact { Gives result (named_bodies_at directory.now ranges.now introduced bytes.now place) }
+    ensures next { IfOk result (λ r. r.next ≤ length bytes.now) }
 {
-    let mut named = List::new(alloc);
-    for body in bodies.as_slice() {
-        named.push(name_body(alloc, directory, body)?)?;
-    }
-    Ok(named)
+    read_many(
+        alloc,
+        bytes,
+        u32::from(introduced),
+        place,
+        |p: usize| -> Result<Read<Body>, ImageFault>
+            requires place { p ≤ length bytes.now }
+            requires entries { length ranges.now.entries ≡ ranges.now.classes }
+            requires ranges { ranges.now ≡ ranges_in directory.now }
+            ensures exact { Gives result (named_body_at directory.entry.now ranges.entry.now bytes.entry.now p) }
+            ensures next { IfOk result (λ r. r.next ≤ length bytes.entry.now) }
+        { read_body(alloc, bytes, p, directory, ranges) },
+    )
 }
 
-fn name_override(
+fn read_overrides(
     alloc: Global,
+    bytes: &List<u8>,
+    place: usize,
     directory: &Directory,
-    replaced: &WireOverride,
-) -> Result<Override, NoMemory>
-    requires { FitsOverride (ranges_in directory.now).classes (FitsMethod (ranges_in directory.now)) replaced.now }
-    ensures { IfOk result (λ named. named ≡ override_named directory.now replaced.now) }
+    ranges: &Ranges,
+) -> Result<Read<List<Override>>, ImageFault>
+    requires place { place ≤ length bytes.now }
+    requires entries { length ranges.now.entries ≡ ranges.now.classes }
+    requires ranges { ranges.now ≡ ranges_in directory.now }
+    ensures exact { Gives result (named_overrides_at directory.now ranges.now bytes.now place) }
+    ensures next { IfOk result (λ r. r.next ≤ length bytes.now) }
 {
-    Ok(Override {
-        method: directory.method(alloc, replaced.method)?,
-        block: name_block(alloc, directory, &replaced.block)?,
+    let count = read_u16(bytes, place)?;
+    let overrides = u32::from(count.value);
+    if overrides > MAX_OVERRIDES {
+        return Err(ImageFault::Number { offset: place });
+    }
+    read_many(
+        alloc,
+        bytes,
+        overrides,
+        count.next,
+        |p: usize| -> Result<Read<Override>, ImageFault>
+            requires place { p ≤ length bytes.now }
+            requires entries { length ranges.now.entries ≡ ranges.now.classes }
+            requires ranges { ranges.now ≡ ranges_in directory.now }
+            ensures exact { Gives result (named_override_at directory.entry.now ranges.entry.now bytes.entry.now p) }
+            ensures next { IfOk result (λ r. r.next ≤ length bytes.entry.now) }
+        { read_override(alloc, bytes, p, directory, ranges) },
+    )
+}
+
+/// Reads the part of a class at a place, with as many bodies as are due: one for each entry that the class introduces.
+#[tactic(auto, unfolding(crate::specs::NamedReading::named_part_at))]
+pub(crate) fn read_part(
+    alloc: Global,
+    bytes: &List<u8>,
+    place: usize,
+    directory: &Directory,
+    ranges: &Ranges,
+    introduced: u16,
+) -> Result<Read<NamedPart>, ImageFault>
+    requires place { place ≤ length bytes.now }
+    requires entries { length ranges.now.entries ≡ ranges.now.classes }
+    requires ranges { ranges.now ≡ ranges_in directory.now }
+    ensures exact { Gives result (named_part_at directory.now ranges.now introduced bytes.now place) }
+    ensures next { IfOk result (λ r. r.next ≤ length bytes.now) }
+{
+    let variables = read_variables(alloc, bytes, place, &directory.keys, ranges.classes)?;
+    let bodies = read_bodies(alloc, bytes, variables.next, directory, ranges, introduced)?;
+    let overrides = read_overrides(alloc, bytes, bodies.next, directory, ranges)?;
+    Ok(Read {
+        value: NamedPart {
+            variables: variables.value,
+            bodies: bodies.value,
+            overrides: overrides.value,
+        },
+        next: overrides.next,
     })
-}
-
-fn name_overrides(
-    alloc: Global,
-    directory: &Directory,
-    overrides: &List<WireOverride>,
-) -> Result<List<Override>, NoMemory>
-    requires { All (FitsOverride (ranges_in directory.now).classes (FitsMethod (ranges_in directory.now))) overrides.now }
-    ensures { IfOk result (λ named. named ≡ map (override_named directory.now) overrides.now) }
-{
-    let mut named = List::new(alloc);
-    for replaced in overrides.as_slice() {
-        named.push(name_override(alloc, directory, replaced)?)?;
-    }
-    Ok(named)
-}
-
-/// The class that a face, a part and some selects of an image stand for.
-pub(crate) fn name_class(
-    alloc: Global,
-    directory: &Directory,
-    face: &WireFace,
-    part: &WirePart,
-    selects: &[WireSelect],
-) -> Result<ClassDecl, NoMemory>
-    requires face { FitsFace (length directory.now.keys) face.now }
-    requires part { FitsClass (ranges_in directory.now) face.now part.now }
-    requires selects { All (λ s. FitsMethod (ranges_in directory.now) s.method) selects.now }
-    ensures { IfOk result (λ named. named ≡ selecting directory.now selects.now (class_named directory.now face.now part.now)) }
-{
-    Ok(ClassDecl {
-        face: name_face(alloc, &directory.keys, face)?,
-        variables: name_variables(alloc, &directory.keys, &part.variables)?,
-        bodies: name_bodies(alloc, directory, &part.bodies)?,
-        overrides: name_overrides(alloc, directory, &part.overrides)?,
-        selects: name_selects(alloc, directory, selects)?,
-    })
-}
-
-/// The classes that faces, the parts of their places and the selects under their numbers stand for. The first of these classes
-/// has the number `first`.
-pub fn name_classes(
-    alloc: Global,
-    directory: &Directory,
-    first: u16,
-    faces: &List<WireFace>,
-    parts: &List<WirePart>,
-    selects: &List<WireSelects>,
-) -> Result<List<ClassDecl>, NoMemory>
-    requires few { first + length faces.now < 2 ^ 16 }
-    requires faces { All (FitsFace (length directory.now.keys)) faces.now }
-    requires parts { FitsParts (ranges_in directory.now) faces.now parts.now }
-    requires selects { AreSelectsOf (ranges_in directory.now) selects.now }
-    ensures { IfOk result (λ named. named ≡ with_selects directory.now first selects.now (classes_named directory.now faces.now parts.now)) }
-{
-    let faces = faces.as_slice();
-    let parts = parts.as_slice();
-    let mut named = List::new(alloc);
-    for i in 0..faces.len() {
-        let own = selects_under(directory, selects, first + i as u16);
-        named.push(name_class(alloc, directory, &faces[i], &parts[i], own)?)?;
-    }
-    Ok(named)
 }

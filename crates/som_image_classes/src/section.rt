@@ -1,5 +1,6 @@
 //! Decodes and encodes the selects section, which images have from version 2 on.
 
+ghost use Rattle.som_image_classes.specs.NamedClasses.{AreSelectsOf};
 ghost use Rattle.som_image_classes.specs.ReadClasses.{section_at};
 ghost use Rattle.som_image_classes.specs.SpelledClasses.{FitsSomeSection, section, version_with};
 ghost use Rattle.som_image_fields.specs.Fields.{Gives};
@@ -38,6 +39,7 @@ pub fn read_section(
 ) -> Result<Read<List<WireSelects>>, ImageFault>
     requires place { place ≤ length bytes.now }
     requires ranges { length ranges.now.entries ≡ ranges.now.classes }
+    ensures known { IfOk result (λ r. AreSelectsOf ranges.now r.value) }
     ensures exact { Gives result (section_at version ranges.now first bytes.now place) }
     ensures next { IfOk result (λ r. r.next ≤ length bytes.now) }
 {

@@ -1,7 +1,8 @@
 //! Library images: the bytes of a release, read from left to right and written.
 //!
-//! `decode` works in two steps. The bytes are read as a `WireRelease`, in which classes and methods go by their numbers and
-//! slots (`specs/Reading.antt`); then keys and names take their places (`specs/Naming.antt`).
+//! What `decode` answers is said in two steps. The bytes are those of a `WireRelease`, in which classes and methods go by their
+//! numbers and slots (`specs/Reading.antt`); then keys and names take their places (`specs/Naming.antt`). The code names each part
+//! as it reads it (`specs/NamedReading.antt`), and makes no `WireRelease`.
 //!
 //! `encode` goes back in two steps: keys and names become numbers and slots (`specs/Numbering.antt`), and each field is
 //! written in its one spelling (`specs/Spelling.antt`). `specs/Limits.antt` says what an image has room for.

@@ -1,45 +1,26 @@
-use Rattle.std.proofs.Common.{◌≡◌, ℕ, List, [], length, drop, get_or, Result, Ok, Err, ap, subst, ◌∙◌, arith}
-use Rattle.std.proofs.lemmas.List.{length-drop, nil_from_length}
-use Rattle.std.proofs.lemmas.Result.{err_from_is_err_and}
+use Rattle.std.proofs.Common.{◌≡◌, ℕ, List, length, Result, Ok, Err, sym, subst}
+use Rattle.std.specs.Prelude.{IfOk}
 use Rattle.som_image_fields.specs.declared.fault.ImageFault.{ImageFault}
-use Rattle.som_image_fields.specs.declared.read.Read.{Read}
 use Rattle.som_image_fields.specs.declared.face.WireFace.{WireFace}
 use Rattle.som_image_fields.specs.declared.method.Ranges.{Ranges}
+use Rattle.som_image_fields.specs.declared.read.Read.{Read}
 use Rattle.som_image_fields.specs.Fields.{Gives}
-use Rattle.som_image_fields.specs.declared.syntax.WirePart.{WirePart}
-use Rattle.som_wire.specs.Reading.{part_at}
+use Rattle.som_image_decode.specs.declared.directory.Directory.{Directory}
+use Rattle.som_image_classes.specs.declared.named_part.NamedPart.{NamedPart}
 use Rattle.som_image_classes.specs.ReadClasses.{introduced_count}
-use Rattle.som_image_classes.proofs.EachFields.{goes_on, ends, is_done}
+use Rattle.som_image_classes.specs.NamedReading.{named_part_at, named_parts_at}
+use Rattle.som_image_classes.proofs.NamedSteps.{each_length}
+use Rattle.som_image_classes.proofs.NamedReading.{parts_are}
 use Rattle.som_image_classes.proofs.parts.read_parts.Goals as goal
 
-abbrev one_of : Ranges → List ℕ → WireFace → ℕ → Result (Read WirePart) ImageFault
-one_of ranges bytes f place = part_at ranges (introduced_count f) bytes place
-
--- what was read of the face at a place
-read_at : (faces items : List WireFace) (bytes : List ℕ) (ranges : Ranges) (face : WireFace) (n i place : ℕ) (r : Result (Read WirePart) ImageFault) → items ≡ faces → n ≡ introduced_count face → face ≡ get_or items i face → Gives r (part_at ranges n bytes place) → Gives r (one_of ranges bytes (get_or faces i face) place)
-read_at faces items bytes ranges face n i place r slice count is given =
-    subst (λ (x : Result (Read WirePart) ImageFault). Gives r x) (ap (λ (k : ℕ). part_at ranges k bytes place) count ∙ ap (λ (f : WireFace). one_of ranges bytes f place) (is ∙ ap (λ (l : List WireFace). get_or l i face) slice)) given
-
-pub returns-in_err-part-clause-exact : goal.returns-in_err-part-clause-exact
-returns-in_err-part-clause-exact c =
-    let p = err_from_is_err_and c.from_residual.result c.from_residual.ensures.1 in
-    let faces = c.args.faces.now in
-    let ranges = c.args.ranges.now in
-    let h = read_at faces c.as_slice-face-items.result.now c.args.bytes.now ranges c.face-item.result c.introduced_count.result c.loop-face.face-index c.loop-face.next (Err c.in_err-part.field-0.0) c.as_slice-face-items.ensures c.introduced_count.ensures c.face-item.is c.in_err-part.ensures.exact in
-    rw (p.1, p.2) (ends (one_of ranges c.args.bytes.now) faces c.args.place c.loop-face.value c.loop-face.face-index c.loop-face.next c.face-item.result c.in_err-part.field-0.0 (rw (← c.as_slice-face-items.ensures) c.loop-face-test.true) h c.loop-face.invariant.reads)
-
-pub loop-face-preserved : goal.loop-face-preserved
-loop-face-preserved c =
-    let faces = c.args.faces.now in
-    let ranges = c.args.ranges.now in
-    let h = read_at faces c.as_slice-face-items.result.now c.args.bytes.now ranges c.face-item.result c.introduced_count.result c.loop-face.face-index c.loop-face.next (Ok c.in_ok-part.part) c.as_slice-face-items.ensures c.introduced_count.ensures c.face-item.is c.in_ok-part.ensures.exact in
-    record {
-      reads = rw (c.in_ok-push.ensures.ok) (goes_on (one_of ranges c.args.bytes.now) faces c.args.place c.loop-face.value c.loop-face.face-index c.loop-face.next c.face-item.result c.in_ok-part.part (rw (← c.as_slice-face-items.ensures) c.loop-face-test.true) h c.loop-face.invariant.reads);
-      within = c.in_ok-part.ensures.found.0.within;
-    }
+as_many : (d : Directory) (ranges : Ranges) (faces : List WireFace) (bytes : List ℕ) (place : ℕ) (r : Result (Read (List NamedPart)) ImageFault) → Gives r (named_parts_at d ranges faces bytes place) → IfOk r (λ x. length x.value ≡ length faces)
+as_many d ranges faces bytes place (Ok x) given = each_length (λ f. named_part_at d ranges (introduced_count f) bytes) faces place x given
+as_many d ranges faces bytes place (Err fault) given = tt
 
 pub returns-clause-exact : goal.returns-clause-exact
 returns-clause-exact c =
-    let faces = c.args.faces.now in
-    let none : drop c.loop-face.face-index faces ≡ [] = nil_from_length (drop c.loop-face.face-index faces) (omega (arith, ap (length {A = WireFace}) c.as_slice-face-items.ensures, length-drop c.loop-face.face-index faces)) in
-    is_done (one_of c.args.ranges.now c.args.bytes.now) faces c.args.place c.loop-face.value c.loop-face.face-index c.loop-face.next none c.loop-face.invariant.reads
+    subst (λ (x : Result (Read (List NamedPart)) ImageFault). Gives c.read_each_part.result x)
+    (sym (parts_are c.args.directory.now c.args.ranges.now c.args.bytes.now c.args.faces.now c.args.place)) c.read_each_part.ensures.exact
+
+pub returns-clause-many : goal.returns-clause-many
+returns-clause-many c = as_many c.args.directory.now c.args.ranges.now c.args.faces.now c.args.bytes.now c.args.place c.read_each_part.result c.read_each_part.ensures.exact
