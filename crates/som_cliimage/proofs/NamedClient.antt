@@ -1,6 +1,7 @@
 -- A program that is read with names is the one that what is read with numbers stands for.
-use Rattle.std.proofs.Common.{◌≡◌, ℕ, ◌+◌, List, length, map, Result, Ok, sym, ap, subst, ◌∙◌}
+use Rattle.std.proofs.Common.{◌≡◌, ℕ, ◌+◌, ◌≤◌, List, length, map, Result, Ok, sym, ap, subst, ◌∙◌}
 use Rattle.std.specs.Prelude.{nat_lt, codes}
+use Rattle.std.proofs.lemmas.Bool.{le-ltb}
 use Rattle.std.specs.Int.{w16, w32}
 use Rattle.som_model.specs.Steps.{◌>>=◌}
 use Rattle.som_model.specs.declared.syntax.Block.{Block}
@@ -10,12 +11,14 @@ use Rattle.som_image_fields.specs.declared.fault.ImageFault.{ImageFault}
 use Rattle.som_image_fields.specs.declared.fault.ImageFault.TheVariants as faults
 use Rattle.som_image_fields.specs.declared.read.Read.{Read}
 use Rattle.som_image_fields.specs.declared.face.WireFace.{WireFace}
+use Rattle.som_image_fields.specs.declared.method.Ranges.{Ranges}
 use Rattle.som_image_fields.specs.declared.selects.WireSelects.{WireSelects}
 use Rattle.som_image_fields.specs.declared.syntax.WireBlock.{WireBlock}
 use Rattle.som_image_fields.specs.declared.syntax.WirePart.{WirePart}
 use Rattle.som_image_fields.specs.Fields.{Gives, done}
 use Rattle.som_image_fields.specs.Fitting.{levels_left}
 use Rattle.som_wire.specs.Reading.{block_at}
+use Rattle.som_image_decode.specs.declared.directory.Directory.{Directory}
 use Rattle.som_image_decode.specs.NamedBlocks.{block_named}
 use Rattle.som_image_bodies.specs.Naming.{naming}
 use Rattle.som_image_classes.specs.declared.named_part.NamedPart.{NamedPart}
@@ -97,6 +100,33 @@ module _ (form : ClientForm) (version : ℕ) (base own : List WireFace) (bytes :
       (λ ps. after_step (section_at version (client_ranges base own) (length base + 4) bytes ps.next) (after_selects ps.value) (finish bytes) (named_after_selects (parts_of ps.value))
       (λ ss. after_step (asked_at w32 form.statements bytes ss.next) (after_statements ps.value ss) (finish bytes) (named_after_statements (parts_of ps.value) ss)
       (main_is ps.value ss)))
+
+-- what the steps after the faces came to
+module _ (form : ClientForm) (version : ℕ) (base own : List WireFace) (bytes : List ℕ) (d : Directory) (ranges : Ranges) (made : d ≡ client_directory base own) (known : ranges ≡ client_ranges base own) where
+  parts_came : (place : ℕ) (ps : Read (List NamedPart)) → naming (map (part_named d)) (parts_at ranges own bytes place) ≡ Ok ps → naming (map (part_named (client_directory base own))) (parts_at (client_ranges base own) own bytes place) ≡ Ok ps
+  parts_came place ps given =
+      sym (ap (λ (x : Directory). naming (map (part_named x)) (parts_at ranges own bytes place)) made ∙ ap (λ (r : Ranges). naming (map (part_named (client_directory base own))) (parts_at r own bytes place)) known) ∙ given
+
+  selects_came : (place first : ℕ) (ss : Read (List WireSelects)) → first ≡ length base + 4 → section_at version ranges first bytes place ≡ Ok ss → section_at version (client_ranges base own) (length base + 4) bytes place ≡ Ok ss
+  selects_came place first ss number given =
+      sym (ap (λ (r : Ranges). section_at version r first bytes place) known ∙ ap (λ (n : ℕ). section_at version (client_ranges base own) n bytes place) number) ∙ given
+
+  main_came : (place : ℕ) (m : Read Block) → naming (block_named d) (block_at (levels_left 1) ranges bytes place) ≡ Ok m → naming (block_named (client_directory base own)) (block_at (levels_left 1) (client_ranges base own) bytes place) ≡ Ok m
+  main_came place m given =
+      sym (ap (λ (x : Directory). naming (block_named x) (block_at (levels_left 1) ranges bytes place)) made ∙ ap (λ (r : Ranges). naming (block_named (client_directory base own)) (block_at (levels_left 1) r bytes place)) known) ∙ given
+
+  pub bodies_came : (place first : ℕ) (ps : Read (List NamedPart)) (ss : Read (List WireSelects)) (u : Unit {0}) (m : Read Block) (p : ClientProgram) → first ≡ length base + 4
+      → naming (map (part_named d)) (parts_at ranges own bytes place) ≡ Ok ps
+      → section_at version ranges first bytes ps.next ≡ Ok ss
+      → Ok u ≡ asked_at w32 form.statements bytes ss.next
+      → naming (block_named d) (block_at (levels_left 1) ranges bytes ss.next) ≡ Ok m
+      → length bytes ≤ m.next
+      → p ≡ program_of base own ps.value ss.value m.value
+      → named_bodies_at form version base own bytes place ≡ Ok p
+  unfolding named_bodies_at
+  bodies_came place first ps ss u m p number parts selects asked main ends is =
+      rw (parts_came place ps parts, selects_came ps.next first ss number selects, sym asked, main_came ss.next m main, le-ltb m.next (length bytes) ends)
+      (ap (λ (x : ClientProgram). Ok x) (sym is))
 
 module _ (form : ClientForm) (bytes : List ℕ) (version : ℕ) where
   abbrev after_own : List WireFace → Read (List WireFace) → Result (Read WireProgram) ImageFault

@@ -11,6 +11,7 @@ mod client;
 mod directory;
 mod form;
 mod laws;
+mod named;
 mod numbered;
 mod program;
 mod wire;

@@ -10,12 +10,12 @@ ghost use Rattle.std.specs.Prelude.{◌≡◌, ◌≤◌, length, IfOk};
 
 use crate::directory::client_directory;
 use crate::form::{ClientForm, test_classes, test_statements};
+use crate::named::name_program;
 use crate::wire::WireProgram;
 use som_image_bodies::read_block;
 use som_image_classes::{
-    KERNEL_CLASSES, name_classes, name_interface, new_image, ranges_of, read_faces,
-    read_faces_after, read_head, read_parts, read_section, version_with, with_faces, with_parts,
-    with_section,
+    KERNEL_CLASSES, new_image, ranges_of, read_faces, read_faces_after, read_head, read_parts,
+    read_section, version_with, with_faces, with_parts, with_section,
 };
 use som_image_fields::{ImageFault, Ranges, WireFace, write_u16};
 use som_model::{ClientProgram, List, MAX_CLIENT_CLASSES, NoMemory};
@@ -104,12 +104,15 @@ fn read_bodies(
     if main.next < bytes.len() {
         return Err(ImageFault::Trailing { offset: main.next });
     }
-    let parts = parts.value;
-    Ok(ClientProgram {
-        base: name_interface(alloc, base)?,
-        classes: name_classes(alloc, &directory, before, own, parts, &selects.value)?,
-        main: main.value,
-    })
+    Ok(name_program(
+        alloc,
+        &directory,
+        base,
+        own,
+        parts.value,
+        &selects.value,
+        main.value,
+    )?)
 }
 
 /// The client image of a program with numbers.
