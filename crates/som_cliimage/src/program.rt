@@ -75,7 +75,15 @@ fn read_named(
     let base = read_faces(alloc, bytes, version.next)?;
     let before = base.value.len() as u16 + KERNEL_CLASSES;
     let own = read_faces_after(alloc, bytes, base.next, before, MAX_CLIENT_CLASSES)?;
-    read_bodies(alloc, bytes, own.next, version.value, form, &base.value, &own.value)
+    read_bodies(
+        alloc,
+        bytes,
+        own.next,
+        version.value,
+        form,
+        &base.value,
+        &own.value,
+    )
 }
 
 // No body is kept with numbers: each is named as it is read.

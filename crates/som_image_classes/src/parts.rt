@@ -72,7 +72,14 @@ fn read_each_part(
     let mut value = List::new(alloc);
     let mut next = place;
     for face in faces.as_slice() {
-        let part = read_part(alloc, bytes, next, directory, ranges, introduced_count(face))?;
+        let part = read_part(
+            alloc,
+            bytes,
+            next,
+            directory,
+            ranges,
+            introduced_count(face),
+        )?;
         value.push(part.value)?;
         next = part.next;
     }
