@@ -1,4 +1,3 @@
-pub mod Levels
 pub mod Made
 pub mod ExprFields
 pub mod StmtFields

@@ -11,11 +11,10 @@ ghost use Rattle.som_wire.specs.Reading.{
 };
 ghost use Rattle.som_image_fields.specs.SyntaxSpelling.{class_selects, select, selects};
 ghost use Rattle.som_image_fields.specs.Fields.{Gives, Stands, done};
-ghost use Rattle.som_image_fields.specs.Spelling.{FitsMethod, FitsSomeRanges};
+ghost use Rattle.som_image_fields.specs.Spelling.{AreShort, FitsMethod, FitsSomeRanges};
 ghost use Rattle.std.specs.List.{flat_map};
-ghost use Rattle.std.specs.Prelude.{◌≡◌, ◌-◌, ◌<◌, ◌≤◌, ◌^◌, ◌++◌, ℕ, length, All, IfOk, OnOk, OnErr};
+ghost use Rattle.std.specs.Prelude.{◌≡◌, ◌-◌, ◌<◌, ◌≤◌, ◌^◌, ◌++◌, ℕ, length, slice_index, All, IfOk, OnOk, OnErr};
 
-use crate::block::know_ranges;
 use som_image_fields::{
     ImageFault, Ranges, Read, WireSelect, WireSelects, read_many, read_method, read_u8, read_u16,
     write_method, write_u8, write_u16,
@@ -188,6 +187,20 @@ pub fn read_selects(
     let _all = bytes.as_bytes();
     know_ranges(ranges);
     read_counted_classes(alloc, bytes, place, ranges, first)
+}
+
+// The ranges are numbers of 2 bytes, which a reference and a list alone don't tell a proof.
+fn know_ranges(ranges: &Ranges)
+    ensures { AreShort ranges.now }
+{
+    let _classes = ranges.classes;
+    know_numbers(ranges.entries.as_slice());
+}
+
+fn know_numbers(numbers: &[u16])
+    ensures { (i : ℕ) → slice_index numbers.now i < 2 ^ 16 }
+{
+    let _len = numbers.len();
 }
 
 /// Appends the selects of classes. They are spelled in a list of their own first, so that want of memory leaves `out` as it
