@@ -11,5 +11,4 @@ pub mod NamedStmts
 pub mod ExprsBack
 pub mod StmtsBack
 pub mod NamedLimits
-pub mod KnownNumbers
 pub mod OwnSelects

@@ -12,7 +12,7 @@ use Rattle.som_image_fields.specs.declared.syntax.WireExpr.{WireExpr, out-WireEx
 use Rattle.som_image_fields.specs.declared.syntax.WireExpr.TheOpen.{WireExpr-F}
 use Rattle.som_image_fields.specs.declared.syntax.WireStmt.{WireStmt, roll-WireStmt, map-WireStmt, fold-roll-WireStmt}
 use Rattle.som_image_fields.specs.declared.syntax.WireStmt.TheOpen.{WireStmt-F}
-use Rattle.som_image_fields.specs.declared.syntax.WireBlock.{WireBlock, fold-roll-WireBlock}
+use Rattle.som_image_fields.specs.declared.syntax.WireBlock.{WireBlock}
 use Rattle.som_image_fields.specs.Fitting.{calls}
 use Rattle.som_image_decode.specs.declared.directory.Directory.{Directory}
 use Rattle.som_image_decode.specs.Naming.{key_at, method_named, kind_named}
@@ -128,7 +128,3 @@ module _ (d : Directory) where
 
   pub stmt_is : (layer : WireStmt-F WireStmt WireBlock) → stmt_named d (roll-WireStmt layer) ≡ roll-Stmt (stmt_layer layer)
   stmt_is layer = fold-roll-WireStmt Stmt Block (stmt_named_step d) block_named_step layer ∙ stmt_layer_named layer
-
-  -- a block stands for the block of what its statements stand for
-  pub block_is : (ss : List WireStmt) → block_named d (record { statements = ss }) ≡ record { statements = map (stmt_named d) ss }
-  block_is ss = fold-roll-WireBlock Stmt Block (stmt_named_step d) block_named_step (record { statements = ss })

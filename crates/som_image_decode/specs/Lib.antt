@@ -1,5 +1,5 @@
 pub mod Naming
 pub mod NamedBlocks
 pub mod BlockLimits
-pub mod KnownNumbers
+pub mod Tests
 pub mod Forms

@@ -18,7 +18,7 @@ use Rattle.som_model.proofs.KeyLaws.{Exact, both, exact_bytes, exact_keys}
 use Rattle.som_image_fields.specs.Fitting.{levels_left}
 use Rattle.som_image_decode.specs.declared.directory.Directory.{Directory}
 use Rattle.som_image_encode.specs.Numbering.{number_of, MethodKnown, IsKnown}
-use Rattle.som_image_decode.specs.KnownNumbers.{all_found}
+use Rattle.som_image_decode.specs.Tests.{all_found}
 use Rattle.som_image_encode.specs.FoundNames.{has_number, has_slot, kind_found, found_step, expr_found, stmt_found_step, block_found_step, stmt_found, block_found, statements_found}
 use Rattle.som_image_decode.specs.BlockLimits.{ArgsWithin, StatementsWithin}
 use Rattle.som_image_encode.specs.ReadyBlocks.{ExprPartsReady, ExprReady, StmtPartsReady, StmtReady, BlockReady}

@@ -14,7 +14,7 @@ use Rattle.som_model.specs.declared.syntax.Block.{Block, fold-Block}
 use Rattle.som_model.specs.Lists.{place_from}
 use Rattle.som_model.specs.Keys.{same_key}
 use Rattle.som_image_decode.specs.declared.directory.Directory.{Directory}
-use Rattle.som_image_decode.specs.KnownNumbers.{all_found}
+use Rattle.som_image_decode.specs.Tests.{all_found}
 use Rattle.som_image_encode.specs.Numbering.{number_of}
 
 -- whether a class has a number

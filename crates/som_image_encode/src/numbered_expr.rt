@@ -1,7 +1,7 @@
 //! Turns expressions with names to expressions of an image.
 
 ghost use Rattle.som_image_decode.specs.Forms.{is_operation, is_receiver_call};
-ghost use Rattle.som_image_decode.specs.KnownNumbers.{all_found};
+ghost use Rattle.som_image_decode.specs.Tests.{all_found};
 ghost use Rattle.som_image_encode.specs.FoundNames.{expr_found};
 ghost use Rattle.som_image_encode.specs.Numbering.{IsDirectory};
 ghost use Rattle.som_image_encode.specs.NumberedBlocks.{expr_numbered};
