@@ -14,7 +14,7 @@ use Rattle.som_image_fields.specs.declared.fault.ImageFault.TheVariants as fault
 use Rattle.som_image_fields.specs.declared.read.Read.{Read}
 use Rattle.som_image_fields.specs.declared.face.WireFace.{WireFace}
 use Rattle.som_image_fields.specs.declared.method.Ranges.{Ranges}
-use Rattle.som_image_fields.specs.Fields.{done, many_at, counted_at}
+use Rattle.som_image_fields.specs.Fields.{many_at, counted_at}
 use Rattle.som_image_fields.specs.Fitting.{levels_left}
 use Rattle.som_image_fields.specs.Reading.{number_at, text_at, kind_at, method_at}
 use Rattle.som_wire.specs.Making.{Reads, of_one, of_two, of_three}

@@ -3,10 +3,10 @@ use Rattle.std.specs.Prelude.{ℕ, ◌+◌, List, [], ◌∷◌, ◌++◌, lengt
 use Rattle.som_model.specs.declared.limits.TheConstants.{MAX_LIBRARY_CLASSES}
 use Rattle.som_image_fields.specs.declared.face.WireFace.{WireFace}
 use Rattle.som_image_fields.specs.declared.method.Ranges.{Ranges}
-use Rattle.som_image_fields.specs.Spelling.{FitsCounted, face, FitsFace, FitsMethod}
+use Rattle.som_image_fields.specs.Spelling.{FitsCounted, FitsFace, FitsMethod}
 use Rattle.som_image_fields.specs.declared.syntax.WirePart.{WirePart}
 use Rattle.som_image_fields.specs.declared.selects.WireSelects.{WireSelects}
-use Rattle.som_image_fields.specs.SyntaxSpelling.{part, selects}
+use Rattle.som_image_fields.specs.SyntaxSpelling.{selects}
 use Rattle.som_image_fields.specs.Fitting.{FitsPart, FitsSelects, FitsSomeSelects}
 use Rattle.som_image_classes.specs.ReadClasses.{introduced_count}
 
