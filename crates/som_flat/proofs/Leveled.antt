@@ -1,13 +1,16 @@
 -- The first breach of the flat interface, with the level of its class.
-use Rattle.std.proofs.Common.{◌≡◌, ℕ, inl, inr, List, [], ◌∷◌, ◌++◌, map, flat_map, Some, None, not, if◌then◌else◌, codes, refl, sym, ap, ◌∙◌, subst}
+use Rattle.std.proofs.Common.{◌≡◌, ℕ, inl, inr, List, [], ◌∷◌, ◌++◌, map, flat_map, Some, None, not, if◌then◌else◌, codes, refl, sym, ap, ◌∙◌, subst, append_assoc}
 use Rattle.std.proofs.lemmas.List.{map-append}
 use Rattle.std.specs.Option.{option_map}
 use Rattle.std.specs.Prelude.{Result, Ok, Err}
 use Rattle.std.specs.Str.{bytes_eq}
 use Rattle.som_model.specs.declared.class.ClassDecl.{ClassDecl}
+use Rattle.som_model.specs.declared.class.Entry.{Entry}
+use Rattle.som_model.specs.declared.class.Entry.TheVariants as entries
+use Rattle.som_model.specs.declared.key.ClassKey.{ClassKey}
 use Rattle.som_model.specs.declared.program.Interface.{Interface}
 use Rattle.som_model.specs.Lists.{Mem, among, doubles, first, or_else}
-use Rattle.som_model.specs.Class.{Class, bare}
+use Rattle.som_model.specs.Class.{Class, bare, introduced}
 use Rattle.som_model.specs.Classes.{ancestors, interface_classes}
 use Rattle.som_model.specs.Compatible.{release_of}
 use Rattle.som_model.specs.Kernel.{kernel}
@@ -19,13 +22,15 @@ use Rattle.som_model_laws.proofs.Lists.{flat_mem, map_mem, mem_map}
 use Rattle.som_model_laws.proofs.Members.{Apart, mem_split}
 use Rattle.som_rekey_laws.specs.Rekeying.{rekey_class}
 use Rattle.som_rekey_laws.proofs.Lists.{map_twice, or_else_map}
+use Rattle.som_rekey_laws.proofs.OwnersKept.{list_introduced}
 use Rattle.som_rekey_rules.proofs.ClassesTyped.{flat_same}
 use Rattle.som_verify_classes.specs.Modules.{module_of}
 use Rattle.som_verify_classes.specs.Told.{of_library, of_release, told}
 use Rattle.som_verify_classes.proofs.PlainNames.{names_say}
+use Rattle.som_verify_rules.specs.Shared.{Twice, all_introduced}
 use Rattle.som_level_laws.specs.Levels.{all_levels, level_classes}
 use Rattle.som_compat_levels.specs.Told.{level_of}
-use Rattle.som_flat_laws.specs.Flat.{class_by_owners, flat_interface, flat_module}
+use Rattle.som_flat_laws.specs.Flat.{class_by_owners, entry_by_owner, flat_interface, flat_module}
 use Rattle.som_flat_laws.proofs.Breaches.{apart_names, flat_exact}
 use Rattle.som_flat_laws.proofs.Flattening.{flat_classes}
 use Rattle.som_flat_laws.proofs.Lists.{first_mem, one_of}
@@ -34,6 +39,7 @@ use Rattle.som_flat.specs.declared.breach.FlatFault.TheVariants as faults
 use Rattle.som_flat.specs.Breaches.{at_level, flat_breach, introduced_again, named_again}
 use Rattle.som_flat.specs.Told.{IsLevelOf, TellsFlat, TellsNamed}
 use Rattle.som_flat.proofs.Lists.{first_map, flat_on, map_flat, map_nothing, map_something}
+use Rattle.som_flat.proofs.Once.{all_keep_s8}
 
 abbrev second : ℕ × RuleBreach → RuleBreach
 second p = p.1
@@ -56,6 +62,26 @@ again_told R keeps before other (c ∷ cs) e =
     ∙ ap (λ z. z ++ map second (named_again (before ++ c ∷ []) cs)) (no_level (level_of (module_of c)) (s1 before c) ∙ same_names before other c (R c) e (keeps c))
     ∙ ap (λ z. s1 other (R c) ++ z) (again_told R keeps (before ++ c ∷ []) (other ++ R c ∷ []) cs
     (map-append name_of other (R c ∷ []) ∙ ap (λ z. z ++ name_of (R c) ∷ []) e ∙ ap (λ z. map name_of before ++ z ∷ []) (keeps c) ∙ sym (map-append name_of before (c ∷ []))))
+
+-- a class introduces the same names by owners and under its flat key
+by_owner : (all : List Class) (k : ClassKey) (es : List Entry) → introduced (map (entry_by_owner all k) es) ≡ introduced es
+by_owner all k [] = refl
+by_owner all k (entries.Introduced name sig way ∷ es) = ap (λ z. name ∷ z) (by_owner all k es)
+by_owner all k (entries.Moved name to ∷ es) = by_owner all k es
+
+flat_introduced : (all cs : List Class) → all_introduced (map (λ c. rekey_class flat_module (class_by_owners all c)) cs) ≡ all_introduced cs
+flat_introduced all [] = refl
+flat_introduced all (c ∷ cs) =
+    ap (λ z. z ++ all_introduced (map (λ c. rekey_class flat_module (class_by_owners all c)) cs))
+    (list_introduced flat_module (map (entry_by_owner all c.key) c.decl.face.entries) ∙ by_owner all c.key c.decl.face.entries)
+    ∙ ap (λ z. introduced c.decl.face.entries ++ z) (flat_introduced all cs)
+
+kernel_joined : (cs : List Class) → all_introduced (kernel ++ cs) ≡ all_introduced kernel ++ all_introduced cs
+kernel_joined cs = joined kernel
+  where
+    joined : (xs : List Class) → all_introduced (xs ++ cs) ≡ all_introduced xs ++ all_introduced cs
+    joined [] = refl
+    joined (x ∷ xs) = ap (λ z. introduced x.decl.face.entries ++ z) (joined xs) ∙ sym (append_assoc (introduced x.decl.face.entries) (all_introduced xs) (all_introduced cs))
 
 module _ (is : List Interface) (f : FacesLoad (level_classes is)) where
   abbrev cs : List Class
@@ -96,6 +122,15 @@ module _ (is : List Interface) (f : FacesLoad (level_classes is)) where
     apart : Apart (map name_of cs)
     apart = apart_names cs (ap (λ z. first (each_after s1 kernel z)) (map_twice (rekey_class flat_module) (class_by_owners (kernel ++ cs)) cs) ∙ no_names)
 
+    -- where no name is introduced twice, the flat interface breaks no rule
+    pub none_once : ((n : List ℕ) → Twice n (all_introduced (kernel ++ cs)) → ⊥) → faces_breach flat ≡ None
+    none_once once =
+        let same : all_introduced (kernel ++ flat) ≡ all_introduced (kernel ++ cs) =
+        ap (λ z. all_introduced (kernel ++ z)) all_flat ∙ kernel_joined (map R cs) ∙ ap (λ z. all_introduced kernel ++ z) (flat_introduced (kernel ++ cs) cs) ∙ sym (kernel_joined cs) in
+        flat_exact is f
+        ∙ ap (λ z. or_else z (first (flat_map (s8 (kernel ++ flat)) flat))) (ap (λ z. first (each_after s1 kernel z)) all_flat ∙ no_names)
+        ∙ ap first (all_keep_s8 (kernel ++ flat) (λ n t. once n (subst (Twice n) same t)) flat)
+
     -- a class of the name is the one
     one_class : (c d : Class) → Mem c cs → Mem d (kernel ++ cs) → name_of d ≡ name_of c → d ≡ c
     one_class c d m n e = elim (mem_split d kernel cs n) [
@@ -134,6 +169,13 @@ bare_faces i ds e = ap of_release e ∙ map_twice of_library bare i.classes
 
 pub none_broken : (is : List Interface) → FacesLoad (level_classes is) → faces_breach (interface_classes (flat_interface is)) ≡ None → flat_breach is ≡ None
 none_broken is f e = map_nothing second (flat_breach is) (breach_told is f ∙ e)
+
+-- so it is where no two classes have one name and no name is introduced twice
+pub flat_once : (is : List Interface) (all : List Class) (i : Interface) → FacesLoad (level_classes is) → i ≡ flat_interface is → all ≡ all_levels is
+    → first (named_again [] all) ≡ None → ((n : List ℕ) → Twice n (all_introduced all) → ⊥) → faces_breach (interface_classes i) ≡ None
+flat_once is all i f e g none once =
+    ap (λ z. faces_breach (interface_classes z)) e
+    ∙ none_once is f (ap (λ z. first (named_again [] z)) (sym g) ∙ none) (λ n t. once n (subst (λ z. Twice n (all_introduced z)) (sym g) t))
 
 -- what is told of the flat interface, where no two classes have one name
 pub told_flat : (is : List Interface) (all : List Class) (i : Interface) (r : Result (Unit {0}) FlatFault) → FacesLoad (level_classes is) → i ≡ flat_interface is → all ≡ all_levels is

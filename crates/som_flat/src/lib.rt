@@ -5,6 +5,7 @@ mod breach;
 mod entries;
 mod faces;
 mod flatten;
+mod introduced;
 mod laws;
 mod modules;
 mod names;

@@ -10,6 +10,7 @@ ghost use Rattle.som_model.specs.Conforming.{faces_breach};
 ghost use Rattle.std.specs.Prelude.{◌≡◌, IfOk, None};
 
 use crate::breach::FlatFault;
+use crate::introduced::are_introduced_once;
 use crate::names::{level_named, names_differ};
 use som_builtins::kernel_faces;
 use som_compat_levels::{PlacedClass, all_classes};
@@ -34,6 +35,9 @@ pub fn flat_rules(
     let kernel = kernel_faces(alloc)?;
     let classes = all_classes(alloc, kernel.classes.as_slice(), levels.as_slice())?;
     names_differ(alloc, &classes)?;
+    if are_introduced_once(alloc, &classes)? {
+        return Ok(());
+    }
     faces_hold(alloc, &classes, flat)
 }
 

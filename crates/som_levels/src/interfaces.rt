@@ -24,8 +24,8 @@ fn faces_by_level(
     Ok(copies)
 }
 
-// So many faces from a place on.
-fn part(faces: &[ClassFace], place: usize, size: usize) -> &[ClassFace]
+/// So many faces from a place on.
+pub(crate) fn part(faces: &[ClassFace], place: usize, size: usize) -> &[ClassFace]
     requires { place + size ≤ length faces.now }
     ensures { result.now ≡ take size (drop place faces.now) }
 {

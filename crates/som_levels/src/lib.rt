@@ -5,7 +5,9 @@ mod interfaces;
 mod modules;
 mod own;
 mod places;
+mod same;
 
 pub use interfaces::levels_below;
 pub use modules::LevelModules;
 pub use own::{main_by_level, note_own};
+pub use same::are_levels_below;

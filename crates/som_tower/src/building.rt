@@ -14,7 +14,7 @@ ghost use Rattle.std.specs.Prelude.{◌≡◌, ◌++◌, ◌∷◌, [], IfOk, On
 use crate::library::keyed_library;
 use som_class_ids::Keyed;
 use som_compat_levels::{LevelFault, compatible_levels};
-use som_levels::{LevelModules, levels_below, note_own};
+use som_levels::{LevelModules, are_levels_below, levels_below, note_own};
 use som_model::{Interface, List, NoMemory, Release};
 use som_rekey::rekey_face;
 use som_towerimage::Level;
@@ -40,7 +40,7 @@ pub(crate) fn ground(alloc: Global, base: &Release) -> Result<Built, NoMemory>
     })
 }
 
-/// Compares what a level was compiled against with the levels below it.
+/// Compares what a level was compiled against with the levels below it. Where it was compiled against these, nothing is copied.
 pub(crate) fn compare(
     alloc: Global,
     modules: &LevelModules,
@@ -50,6 +50,9 @@ pub(crate) fn compare(
     ensures tells { TellsLevels (first_level_break (levels_of modules.now.sizes modules.now.client modules.now.base) below.now) result }
     ensures kept { OnOk result (CompatibleLevels (levels_of modules.now.sizes modules.now.client modules.now.base) below.now) }
 {
+    if are_levels_below(modules, below) {
+        return Ok(());
+    }
     let compiled_against = levels_below(alloc, modules)?;
     compatible_levels(alloc, &compiled_against, below)
 }

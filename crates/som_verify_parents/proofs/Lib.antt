@@ -1,1 +1,2 @@
 mod FirstParent
+mod Covered

@@ -10,7 +10,7 @@ use std::alloc::Global;
 pub fn bare_classes(alloc: Global, faces: &[ClassFace]) -> Result<List<ClassDecl>, NoMemory>
     ensures { IfOk result (λ classes. classes ≡ map bare faces.now) }
 {
-    let mut classes = List::new(alloc);
+    let mut classes = List::with_room(alloc, faces.len())?;
     for face in faces {
         add_bare(alloc, &mut classes, face)?;
     }

@@ -1,7 +1,7 @@
 //! Searches for doubles: the first name that stands twice among names, and a class that is named twice.
 
 ghost use Rattle.som_model.specs.Keys.{same_key};
-ghost use Rattle.som_model.specs.Lists.{doubles, first, some};
+ghost use Rattle.som_model.specs.Lists.{among, doubles, first, some};
 ghost use Rattle.som_order.specs.Names.{texts};
 ghost use Rattle.std.specs.Prelude.{◌≡◌, ◌∷◌, ◌++◌, [], IfOk, OnOk, is_some, option_copied};
 ghost use Rattle.std.specs.Str.{bytes_eq};
@@ -11,12 +11,42 @@ use som_model::{ClassKey, NoMemory};
 use som_order::note_name;
 use std::alloc::Global;
 
+// So many names are sooner compared with one another than looked up in a table.
+const FEW: usize = 8;
+
 /// The first name that stands a second time.
 pub fn first_double<'a>(alloc: Global, names: &[&'a [u8]]) -> Result<Option<&'a [u8]>, NoMemory>
     ensures { IfOk result (λ double. option_copied double ≡ first (doubles bytes_eq [] (texts names.now))) }
 {
+    if names.len() <= FEW {
+        return Ok(double_among(names));
+    }
     let mut seen = IndexSet::new(alloc);
     double_after(&mut seen, names)
+}
+
+// The same, by comparing each name with those before it.
+fn double_among<'a>(names: &[&'a [u8]]) -> Option<&'a [u8]>
+    ensures { option_copied result ≡ first (doubles bytes_eq [] (texts names.now)) }
+{
+    for place in 0..names.len() {
+        let name = names[place];
+        if is_among(&names[..place], name) {
+            return Some(name);
+        }
+    }
+    None
+}
+
+fn is_among(names: &[&[u8]], name: &[u8]) -> bool
+    ensures { result ≡ among name.now (texts names.now) }
+{
+    for other in names {
+        if name == *other {
+            return true;
+        }
+    }
+    false
 }
 
 // The first name that stands a second time, after those that were seen.

@@ -31,6 +31,12 @@ names_of c = introduced c.decl.face.entries
 pub kept_one : (shared : List (List ℕ)) (name : List ℕ) (names : List (List ℕ)) → kept shared (name ∷ names) ≡ kept shared (name ∷ []) ++ kept shared names
 kept_one shared name names = filter-append (λ n. among n shared) (name ∷ []) names
 
+-- where no name is shared none is kept
+pub none_kept : (shared : List (Bor (List ℕ))) (names : List (List ℕ)) → length shared ≡ 0 → [] ≡ kept (texts shared) names
+none_kept (s ∷ ss) names e = absurd (cc)
+none_kept [] [] e = refl
+none_kept [] (n ∷ ns) e = none_kept [] ns e
+
 here_drop : (cs : List Class) (i : ℕ) → i < length cs → drop i cs ≡ class_of_place cs i ∷ drop (i + 1) cs
 here_drop [] i lt = absurd (omega arith)
 here_drop (c ∷ cs) zero lt = refl
@@ -102,6 +108,11 @@ keys_along cs (a ∷ list) = ap (λ z. key_at cs a ∷ z) (keys_along cs list)
 
 tells : (cs : List Class) → Tells (hierarchy cs)
 tells cs = record { one = λ x. hierarchy_same cs x x ∙ exact_keys.one x; two = λ x y e. exact_keys.two x y (sym (hierarchy_same cs x y) ∙ e) }
+
+-- no names stand along places whose rows have none
+pub none_along : (rows : List (List (Bor (List ℕ)))) (list : List ℕ) → ((p : ℕ) → row_names rows p ≡ []) → flat_map (row_names rows) list ≡ []
+none_along rows [] none = refl
+none_along rows (a ∷ list) none = ap (λ z. z ++ flat_map (row_names rows) list) (none a) ∙ none_along rows list none
 
 module _ (cs : List Class) (all : List (List ℕ)) (lists : AreLists cs all) (rows : List (List (Bor (List ℕ)))) (s : AreSharedRows cs rows) where
   rows_are : (list : List ℕ) → ((a : ℕ) → Mem a list → a < length cs) → flat_map (row_names rows) list ≡ kept s.shared (flat_map (introduced_at cs) list)

@@ -114,6 +114,9 @@ fn shared_of<'a>(
 ) -> Result<List<&'a [u8]>, NoMemory>
     ensures { IfOk result (λ row. texts row ≡ kept (texts shared.now.keys) (introduced entries.now)) }
 {
+    if shared.is_empty() {
+        return Ok(List::new(alloc));
+    }
     let mut row = List::new(alloc);
     for entry in entries {
         if let Entry::Introduced { name, .. } = entry {

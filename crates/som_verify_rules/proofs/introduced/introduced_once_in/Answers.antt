@@ -21,6 +21,7 @@ introduced_once_along-requires c = record {
   list = λ a m. (let cs = with_kernel (classes_of c.args.classes.now) in
       let low = c.requires.lists.low _ a (rw c.item-list.ensures at m) in
       omega (arith, low, long_rows cs c.args.rows.now c.requires.rows));
+  empty = c.requires.empty;
 }
 
 pub returns : goal.returns
