@@ -1,6 +1,7 @@
 pub mod TypedExpressions
 pub mod PartLaws
 pub mod MethodLaws
+pub mod FoundMethods
 pub mod NameLaws
 pub mod ElabLaws
 pub mod FormLaws

@@ -20,7 +20,7 @@ use Rattle.som_elab_body.specs.declared.methods.FoundMethod.{FoundMethod}
 use Rattle.som_elab_body.specs.Methods.{Method, method_by, method_of}
 use Rattle.som_elab_body.specs.Forms.{Finds, first_method, method_at, method_by_entry}
 
-none_some : {A : Type 0} {x : A} → None ≡ Some x → ⊥
+pub none_some : {A : Type 0} {x : A} → None ≡ Some x → ⊥
 none_some e = absurd (cc)
 
 -- one class more
@@ -42,7 +42,7 @@ method_more cs name k ks =
     ∙ entry_decides name k (entry_at cs k name) (method_by cs name (find (introduces cs name) ks))
 
 module _ (cs : List Class) (all : List (List ℕ)) (lists : AreLists cs all) (name : List ℕ) where
-  entry_here : (p : ℕ) → p < length cs → entry_at cs (key_at cs p) name ≡ entry_of (face_at cs p).entries name
+  pub entry_here : (p : ℕ) → p < length cs → entry_at cs (key_at cs p) name ≡ entry_of (face_at cs p).entries name
   entry_here p lt = let e = lists.found p lt in rw e refl
 
   first_more : (list : List ℕ) (i : ℕ) → i < length list → slice_index_or list i 0 < length cs
