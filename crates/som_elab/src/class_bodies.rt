@@ -1,6 +1,8 @@
 //! The bodies, overrides and selects of one class, checked in the order of its entries.
 
+ghost use Rattle.som_elab_methods.specs.Accessors.{access, accessors_of as declared_accessors};
 ghost use Rattle.som_elab_methods.specs.Bodies.{texts_for};
+ghost use Rattle.som_elab_methods.specs.Tables.{accessed};
 ghost use Rattle.som_elab.specs.Contexts.{IsModuleContext, among_in, class_steps, classes_in, refused_as, signed_steps};
 ghost use Rattle.som_elab.specs.Blocks as spec;
 ghost use Rattle.som_elab.specs.Blocks.{Answers, refused_at};
@@ -12,20 +14,24 @@ ghost use Rattle.som_verify_classes.specs.Places.{class_of_place};
 ghost use Rattle.som_sema_drafts.specs.Drafts.{plain_draft};
 ghost use Rattle.som_sema_decls.specs.Finished.{selects_at};
 ghost use Rattle.som_sema_drafts.specs.Items.{or_object};
+ghost use Rattle.som_sema_names.specs.Noted.{IsKnown};
 ghost use Rattle.som_elab_body.specs.Code.{ClassFits};
 ghost use Rattle.som_verify_forms.specs.Kinds.{IsDeclared};
 ghost use Rattle.som_verify_forms.specs.Knowing.{sig_is_known};
-ghost use Rattle.std.specs.Prelude.{◌≡◌, ◌≤◌, length, true, IfOk, Some};
+ghost use Rattle.std.specs.Prelude.{◌≡◌, ◌≤◌, length, map, true, IfOk, Some};
 
 use crate::contexts::ModuleContext;
 use som_ast::BodyText;
 use som_elab_body::{BodyFault, method_body};
-use som_elab_methods::{ModuleTexts, accessors_of, body_named, first_for};
+use som_elab_methods::{
+    Accessor, ModuleTexts, accessor_places, accessors_of, body_named, first_for,
+};
 use som_model::{
     Block, Body, Entry, List, MAX_LOCALS, MethodRef, NoMemory, Override, Select, Sig, Text,
 };
 use som_sema_decls::selects;
 use som_sema_drafts::{Draft, Refused};
+use som_sema_names::Places;
 use som_verify_classes::Broken;
 use som_verify_forms::{decl_at, signature_of};
 use std::alloc::Global;
@@ -121,12 +127,35 @@ fn entry_bodies(
         draft.now.decl.face.entries) result }
 {
     let accessors = accessors_of(alloc, draft.text)?;
+    let names = accessor_places(alloc, &accessors)?;
+    bodies_beside(alloc, context, place, draft, own, &accessors, &names)
+}
+
+// The bodies of all entries that a class introduces, beside those of its accessors, which stand in a table of their names.
+fn bodies_beside(
+    alloc: Global,
+    context: &ModuleContext,
+    place: usize,
+    draft: &Draft,
+    own: &[&BodyText],
+    accessors: &[Accessor],
+    names: &Places,
+) -> Result<List<Body>, Refused>
+    requires context { IsModuleContext context.now }
+    requires place { IsDeclared (classes_in context.now) place }
+    requires class { (class_of_place (classes_in context.now) place).decl ≡ draft.now.decl }
+    requires fits { ClassFits (classes_in context.now) (Some place) }
+    requires accessors { map access accessors.now ≡ declared_accessors draft.now.text.now }
+    requires names { IsKnown (accessed 0 (map access accessors.now)) names.now }
+    ensures { Answers (spec.entry_bodies (among_in context.now) (given own.now) (plain_draft draft.now) (class_of_place (classes_in context.now) place)
+        draft.now.decl.face.entries) result }
+{
     let mut bodies = List::new(alloc);
     for entry in draft.decl.face.entries.as_slice() {
         let Entry::Introduced { name, sig, .. } = entry else {
             continue;
         };
-        let given = body_named(&accessors, draft, name.as_slice());
+        let given = body_named(accessors, names, draft, name.as_slice());
         let body = entry_body(alloc, context, place, own, name, sig, given)?;
         bodies.push(body)?;
     }

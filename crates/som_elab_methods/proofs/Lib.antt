@@ -4,4 +4,5 @@ pub mod Grouping
 pub mod OwnTexts
 pub mod NamedClasses
 pub mod Fitting
+pub mod Accessing
 pub mod Tabled

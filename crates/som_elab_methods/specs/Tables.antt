@@ -4,6 +4,7 @@ use Rattle.som_model.specs.declared.class.Override.{Override}
 use Rattle.som_model.specs.Lists.{among}
 use Rattle.som_ast.specs.declared.body.BodyText.{BodyText}
 use Rattle.som_sema_names.specs.Noted.{At}
+use Rattle.som_elab_methods.specs.Accessors.{Access}
 use Rattle.som_elab_methods.specs.Bodies.{texts_for}
 
 -- a table has these names and no others
@@ -14,6 +15,11 @@ HaveNames names table = (name : List ℕ) → among name table ≡ among name na
 abbrev pub replaced : ℕ → List Override → List At
 replaced n [] = []
 replaced n (o ∷ os) = record { name = o.method.name; place = n } ∷ replaced (suc n) os
+
+-- the names of accessors with their places, counted from n
+abbrev pub accessed : ℕ → List Access → List At
+accessed n [] = []
+accessed n (a ∷ xs) = record { name = a.name; place = n } ∷ accessed (suc n) xs
 
 -- whether there is a body, and whether there are two or more
 abbrev pub is_any : List BodyText → Bool

@@ -2,14 +2,17 @@
 
 ghost use Rattle.som_elab_methods.specs.Accessors as spec;
 ghost use Rattle.som_elab_methods.specs.Accessors.{Access, access, attribute_accessors, export_accessors};
+ghost use Rattle.som_elab_methods.specs.Tables.{accessed};
 ghost use Rattle.som_model.specs.Lists.{find};
 ghost use Rattle.som_ast.specs.declared.words.Word.{Word as Named};
-ghost use Rattle.std.specs.Prelude.{◌≡◌, ◌++◌, map, flat_map, option_map, option_copied, IfOk, OnOk};
+ghost use Rattle.som_sema_names.specs.Noted.{IsKnown};
+ghost use Rattle.std.specs.Prelude.{◌≡◌, ◌++◌, map, flat_map, option_map, option_copied, slice_get, IfOk, OnOk};
 ghost use Rattle.std.specs.Str.{bytes_eq};
 
 use som_ast::{Export, IdlInterface, Word};
 use som_model::{NoMemory, Text};
 use som_sema_drafts::prefixed;
+use som_sema_names::{Places, first_place, note, place_table};
 use std::alloc::Global;
 
 /// A method that reads or sets an attribute: its name, the attribute as the text has it, and whether it sets.
@@ -98,14 +101,34 @@ fn add_attribute<'a>(
     Ok(())
 }
 
-/// The first accessor of this name, if there is one.
-pub fn accessor_named<'a>(accessors: &'a [Accessor], name: &[u8]) -> Option<&'a Accessor<'a>>
+/// A table of the names of accessors.
+pub fn accessor_places<'a>(alloc: Global, accessors: &'a [Accessor]) -> Result<Places<'a>, NoMemory>
+    ensures { IfOk result (IsKnown (accessed 0 (map access accessors.now))) }
+{
+    let mut all = Vec::new(alloc);
+    for place in 0..accessors.len() {
+        note(&mut all, accessors[place].name.as_slice(), place)?;
+    }
+    place_table(alloc, &all)
+}
+
+/// The first accessor of this name, if there is one, by the table of their names.
+pub fn accessor_named<'a>(
+    accessors: &'a [Accessor],
+    places: &Places,
+    name: &[u8],
+) -> Option<&'a Accessor<'a>>
+    requires { IsKnown (accessed 0 (map access accessors.now)) places.now }
     ensures { option_map access (option_copied result) ≡ find (λ (a : Access). bytes_eq name.now a.name) (map access accessors.now) }
 {
-    for accessor in accessors {
-        if name == accessor.name.as_slice() {
-            return Some(accessor);
-        }
+    match first_place(places, name) {
+        None => None,
+        Some(place) => accessor_in(accessors, place),
     }
-    None
+}
+
+fn accessor_in<'a>(accessors: &'a [Accessor], place: usize) -> Option<&'a Accessor<'a>>
+    ensures { option_copied result ≡ slice_get accessors.now place }
+{
+    accessors.get(place)
 }

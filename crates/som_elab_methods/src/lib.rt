@@ -15,7 +15,7 @@ mod selects;
 mod texts;
 
 pub use accessor_bodies::body_named;
-pub use accessors::{Accessor, accessors_of};
+pub use accessors::{Accessor, accessor_places, accessors_of};
 pub use counted_bodies::bodies_counted;
 pub use grouped::ModuleTexts;
 pub use laws::limits_law;

@@ -5,7 +5,7 @@ use Rattle.som_elab.specs.Blocks.{entry_bodies}
 use Rattle.som_elab.specs.Contexts.{among_in, classes_in}
 use Rattle.som_elab_methods.specs.Texts.{given}
 use Rattle.som_elab.proofs.Gathering.{after}
-use Rattle.som_elab.proofs.class_bodies.entry_bodies.Given as goal
+use Rattle.som_elab.proofs.class_bodies.bodies_beside.Given as goal
 
 abbrev pub invariant-loop-entry : goal.invariant-loop-entry
 invariant-loop-entry l = after l.bodies (entry_bodies (among_in l.context) (given l.own) (plain_draft l.draft) (class_of_place (classes_in l.context) l.place) (drop l.entry-index l.draft.decl.face.entries))

@@ -8,7 +8,7 @@ use Rattle.som_elab.specs.Contexts.{among_in, classes_in}
 use Rattle.som_elab_methods.specs.Texts.{given}
 use Rattle.som_elab.proofs.BodyLaws.{entry_sig_few, entry_sig_known}
 use Rattle.som_elab.proofs.ClassSteps.{entry_next}
-use Rattle.som_elab.proofs.class_bodies.entry_bodies.Goals as goal
+use Rattle.som_elab.proofs.class_bodies.bodies_beside.Goals as goal
 
 pub entry_body-requires-clause-sig : goal.entry_body-requires-clause-sig
 entry_body-requires-clause-sig c =
