@@ -5,6 +5,13 @@ pub mod Obeying
 pub mod Entering
 pub mod Stepping
 pub mod Bursting
+pub mod Direct
+pub mod Peeking
+pub mod Handing
+pub mod FirstBody
+pub mod MoreCodes
+pub mod Turning
+pub mod EntryEnds
 pub mod AtOnce
 pub mod Returning
 pub mod Waking

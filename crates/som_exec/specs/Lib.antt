@@ -3,3 +3,4 @@ pub mod Bursts
 pub mod Doing
 pub mod Going
 pub mod Runs
+pub mod Entered

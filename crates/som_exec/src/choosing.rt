@@ -58,7 +58,7 @@ pub fn step_next<R: Runtime, K: Sink, L: Ledger>(
 }
 
 // Does what is next in a task, which isn't over. What is next then is answered.
-fn do_next<R: Runtime, K: Sink, L: Ledger>(
+pub(crate) fn do_next<R: Runtime, K: Sink, L: Ledger>(
     alloc: Global,
     runtime: &mut R,
     task: &mut Task,

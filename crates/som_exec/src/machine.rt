@@ -62,9 +62,11 @@ impl<'a, R: Runtime, K: Sink, L: Ledger> Moves for Machine<'a, R, K, L> {
             self.task,
             self.objects,
             self.host,
+            self.trace,
             self.prefix,
             &mut self.fuel,
             self.out,
+            self.steps,
         )
     }
 

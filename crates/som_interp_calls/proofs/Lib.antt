@@ -6,12 +6,12 @@ mod Objects
 mod Dispatches
 mod Firsts
 mod Freeing
-mod Going
+pub mod Going
 mod Growing
 mod Naming
-mod Offset
+pub mod Offset
 mod Upwards
-mod Passing
-mod Pushing
+pub mod Passing
+pub mod Pushing
 mod Staying
 mod Whole

@@ -115,7 +115,7 @@ pub fn parent_call(
 }
 
 /// One more waits, above the others.
-pub(crate) fn wait(frames: &mut Frames, waiting: Waiting) -> Result<(), Stop>
+pub fn wait(frames: &mut Frames, waiting: Waiting) -> Result<(), Stop>
     ensures items { OnOk result (HasPushed frames.old frames.new (waiting ∷ [])) }
     ensures err { (e : Stopping) → result ≡ Err e → e ≡ stops.NoMemory }
 {

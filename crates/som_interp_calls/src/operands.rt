@@ -9,7 +9,7 @@ use som_model::NoMemory;
 use som_objects::Cell;
 
 /// Takes the receiver and so many arguments off the operands of a body, which goes on after the call.
-pub(crate) fn take_call(body: &mut Body, count: usize) -> Result<(Cell, Vec<Cell>), NoMemory>
+pub fn take_call(body: &mut Body, count: usize) -> Result<(Cell, Vec<Cell>), NoMemory>
     requires { body.old.at + 1 < 2 ^ 64 }
     ensures receiver { IfOk result (λ taken. taken.0 ≡ top_cell (take (length body.old.operands.items - count) body.old.operands.items)) }
     ensures args { IfOk result (λ taken. taken.1.items ≡ drop (length body.old.operands.items - count) body.old.operands.items) }

@@ -1,15 +1,15 @@
 mod Standing
 mod Asked
-mod Coded
+pub mod Coded
 pub mod Pushing
 mod Found
 mod Called
 mod Written
 mod Made
-mod Entering
-mod Firsts
+pub mod Entering
+pub mod Firsts
 mod Waits
 mod Stepped
-mod Coming
-mod Began
-mod Costing
+pub mod Coming
+pub mod Began
+pub mod Costing

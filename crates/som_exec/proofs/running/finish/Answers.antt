@@ -7,7 +7,7 @@ use Rattle.som_semantics.specs.World.{World}
 use Rattle.som_trace.specs.Filters.{shows_of}
 use Rattle.som_exec.proofs.Alone.{not_started}
 use Rattle.som_exec.proofs.Counting.{bounded_run, direct_run, none_counted, none_searched, run_direct, run_on}
-use Rattle.som_exec.specs.Runs.{CountsMain, RunsMain}
+use Rattle.som_exec.specs.Runs.{RunsMain}
 use Rattle.som_exec.proofs.running.finish.Goals as goal
 
 pub returns-in-Ok-clause-runs : goal.returns-in-Ok-clause-runs
