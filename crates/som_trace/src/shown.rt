@@ -4,7 +4,8 @@ ghost use Rattle.som_meta.specs.Numbering.{IsNumbered, key_at};
 ghost use Rattle.som_model.specs.ClassNames.{class_name};
 ghost use Rattle.som_trace.specs.Choices.{Answers};
 ghost use Rattle.som_trace.specs.Filters.{choice_of, shows_of};
-ghost use Rattle.std.specs.Prelude.{◌≡◌, IfOk};
+ghost use Rattle.som_trace.specs.declared.filter.TraceChoice.TheVariants as choices;
+ghost use Rattle.std.specs.Prelude.{◌≡◌, IfOk, true};
 
 use crate::filter::{TraceChoice, TraceFilter};
 use crate::key_view::{ClassKeys, KeyView};
@@ -40,8 +41,8 @@ fn is_made_shown<N: ClassKeys>(
     }
 }
 
-/// Whether calls of the bodies of a class are shown. The closure is asked for the name of a declared class, and for that of a made one if it is the
-/// chosen name.
+/// Whether calls of the bodies of a class are shown. Where the choice shows none, nothing is asked; else the closure is asked for
+/// the name of a declared class, and for that of a made one if it is the chosen name.
 pub fn is_shown<N: ClassKeys>(
     alloc: Global,
     filter: &TraceFilter,
@@ -51,9 +52,20 @@ pub fn is_shown<N: ClassKeys>(
     requires { IsNumbered (N.known classes.now) class }
     ensures { IfOk result (λ shown. shown ≡ shows_of filter.now (class_name (key_at (N.known classes.now) class))) }
 {
+    if shows_nothing(filter) {
+        return Ok(false);
+    }
     match classes.key(class) {
         KeyView::Named { name, .. } => Ok(filter.answer(name)),
         KeyView::Derived { .. } => is_made_shown(alloc, filter, classes, class),
         KeyView::Proxy { .. } => is_made_shown(alloc, filter, classes, class),
     }
+}
+
+// Whether a filter shows no call.
+#[inline(always)]
+fn shows_nothing(filter: &TraceFilter) -> bool
+    ensures { result ≡ true → choice_of filter.now ≡ choices.Nothing }
+{
+    matches!(&filter.choice, TraceChoice::Nothing)
 }
