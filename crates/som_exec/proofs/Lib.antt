@@ -4,9 +4,13 @@ pub mod Testing
 pub mod Obeying
 pub mod Entering
 pub mod Stepping
+pub mod Pending
 pub mod Bursting
+pub mod Made
+pub mod Asking
 pub mod Direct
 pub mod Peeking
+pub mod LastOperand
 pub mod Handing
 pub mod FirstBody
 pub mod MoreCodes

@@ -4,3 +4,4 @@ pub mod Doing
 pub mod Going
 pub mod Runs
 pub mod Entered
+pub mod Asked

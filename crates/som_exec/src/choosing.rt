@@ -90,9 +90,9 @@ pub(crate) fn do_next<R: Runtime, K: Sink, L: Ledger>(
     }
 }
 
-// The answer of a step that tells no line: a sink that failed counts as want of memory.
+/// The answer of a step that tells no line: a sink that failed counts as want of memory.
 #[inline(always)]
-fn untold(answer: Result<Now, Stop>) -> Result<Now, Stop>
+pub(crate) fn untold(answer: Result<Now, Stop>) -> Result<Now, Stop>
     ensures { result ≡ sinkless answer }
 {
     match answer {

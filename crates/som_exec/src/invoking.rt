@@ -72,9 +72,9 @@ pub fn invoke_next<R: Runtime, K: Sink, L: Ledger>(
     )
 }
 
-// Takes the call that is made next out of the frames, with the levels that it may go.
+/// Takes the call that is made next out of the frames, with the levels that it may go.
 #[inline(always)]
-fn take_call(frames: &mut Frames) -> (u32, Call)
+pub(crate) fn take_call(frames: &mut Frames) -> (u32, Call)
     requires { IsCall frames.old.now }
     ensures call { frames.old.now ≡ nows.Calling result.0 result.1 }
     ensures left { frames.new ≡ record frames.old { now = nows.Answering cells.Nil } }

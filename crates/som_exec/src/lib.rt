@@ -3,6 +3,7 @@
 #![tactic(auto)]
 
 mod advancing;
+mod asked;
 mod back;
 mod burst;
 mod calling;
@@ -10,14 +11,19 @@ mod choosing;
 mod direct_call;
 mod entry;
 mod finished;
+mod first_body;
 mod instruction_step;
 mod invoking;
+mod kept_call;
 mod kind;
 mod machine;
+mod made_call;
+mod operands;
 mod placing;
 mod receiver;
 mod resuming;
 mod running;
+mod spares;
 mod telling;
 mod turn;
 mod value_return;

@@ -14,4 +14,4 @@ mod Upwards
 pub mod Passing
 pub mod Pushing
 mod Staying
-mod Whole
+pub mod Whole
