@@ -12,6 +12,7 @@ pub mod Direct
 pub mod Peeking
 pub mod LastOperand
 pub mod Handing
+pub mod AnsweredCall
 pub mod FirstBody
 pub mod MoreCodes
 pub mod Turning

@@ -4,6 +4,7 @@
 
 mod advancing;
 mod asked;
+mod attribute_call;
 mod back;
 mod burst;
 mod calling;

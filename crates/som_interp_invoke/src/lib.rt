@@ -26,3 +26,4 @@ pub use begun::{Begun, What};
 pub use call_step::make_call;
 pub use invoking::invoke;
 pub use preparing::prepare;
+pub use variables::get_or_set;

@@ -26,4 +26,4 @@ returns-else-has_hooks g c =
     in_own_class l made os call c.requires.parent c.in-Ok.class
     (class_linked l (g.R.Classes.keys r) (g.R.Classes.world r) know.agree.linked_numbers know.agree.linked_answers os call.me c.in-Ok.class c.in-Ok.ensures.means)
     (live_made _ _ _ _ _ know.agree know.loads made know.closed os call.me c.in-Ok.class c.requires.asked.me c.in-Ok.ensures.numbered c.in-Ok.ensures.means)
-    (c.if-has_hooks.ensures refl)
+    (c.if-has_hooks.ensures.none refl)
