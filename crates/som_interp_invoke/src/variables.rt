@@ -65,9 +65,7 @@ pub fn get_or_set<R: Runtime>(
             read_variable(runtime, &*task, &*objects, begun, variable, me),
         ),
         What::Set(variable) => {
-            match write_variable(
-                alloc, runtime, task, objects, begun, variable, me, argument,
-            ) {
+            match write_variable(alloc, runtime, task, objects, begun, variable, me, argument) {
                 Ok(()) => Ok(Cell::Nil),
                 Err(stopped) => Err(stop_at(at, stopped)),
             }
